@@ -1,0 +1,4 @@
+pub mod Answers
+pub mod Stages
+pub mod Kept
+pub mod Out

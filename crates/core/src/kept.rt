@@ -1,0 +1,141 @@
+// The ring that a stage keeps alive beside the queues' current ones; there is never more than one.
+ghost use mathlib.Core.Path.{_≡_};
+ghost use Rattle.core.specs.Kept.{resizeKeeps, pushKeeps, popKeeps, stealKeeps, sourceKeeps, ownKeeps, keptOf};
+use crate::stage::Haul;
+use crate::stage::OwnStage;
+use crate::stage::PopStage;
+use crate::stage::PushStage;
+use crate::stage::ResizeStage;
+use crate::stage::SourceStage;
+use crate::stage::Stage;
+use crate::stage::StealStage;
+use ring::Ring;
+
+// A ring that is being built, from the claim to the swap, or one that is held, from its load until the answer.
+pub enum Kept {
+    Nothing,
+    Built(Ring),
+    Held(Ring),
+}
+
+fn resize_keeps(at: ResizeStage) -> Kept
+    ensures { λ r. ⌜ r ≡ resizeKeeps at ⌝ }
+{
+    match at {
+        ResizeStage::LoadBack { capacity: _ } => Kept::Nothing,
+        ResizeStage::LoadFront { capacity: _, b: _ } => Kept::Nothing,
+        ResizeStage::Copy { b: _, i: _, ring } => Kept::Built(ring),
+        ResizeStage::Swap { ring } => Kept::Built(ring),
+    }
+}
+
+fn push_keeps(at: PushStage) -> Kept
+    ensures { λ r. ⌜ r ≡ pushKeeps at ⌝ }
+{
+    match at {
+        PushStage::LoadBack => Kept::Nothing,
+        PushStage::LoadFront { b: _ } => Kept::Nothing,
+        PushStage::Resize { b: _, at } => resize_keeps(at),
+        PushStage::Write { b: _ } => Kept::Nothing,
+        PushStage::StoreBack { b: _ } => Kept::Nothing,
+    }
+}
+
+fn pop_keeps(at: PopStage) -> Kept
+    ensures { λ r. ⌜ r ≡ popKeeps at ⌝ }
+{
+    match at {
+        PopStage::Fifo(_) => Kept::Nothing,
+        PopStage::Lifo(_) => Kept::Nothing,
+        PopStage::Shrink { job: _, at } => resize_keeps(at),
+    }
+}
+
+fn steal_keeps(at: StealStage) -> Kept
+    ensures { λ r. ⌜ r ≡ stealKeeps at ⌝ }
+{
+    match at {
+        StealStage::LoadFront => Kept::Nothing,
+        StealStage::LoadBack { f: _ } => Kept::Nothing,
+        StealStage::LoadRing { f: _ } => Kept::Nothing,
+        StealStage::Read { f: _, ring } => Kept::Held(ring),
+        StealStage::ReloadRing { f: _, ring, job: _ } => Kept::Held(ring),
+        StealStage::Exchange { f: _, ring, job: _ } => Kept::Held(ring),
+    }
+}
+
+fn held(haul: Haul) -> Kept
+    ensures { λ r. ⌜ r ≡ Kept.Held (haul .ring) ⌝ }
+{
+    let ring = haul.ring;
+    Kept::Held(ring)
+}
+
+fn source_keeps(at: SourceStage) -> Kept
+    ensures { λ r. ⌜ r ≡ sourceKeeps at ⌝ }
+{
+    match at {
+        SourceStage::LoadFront { kind: _, others: _ } => Kept::Nothing,
+        SourceStage::LoadBack {
+            kind: _,
+            others: _,
+            f: _,
+        } => Kept::Nothing,
+        SourceStage::LoadRing { wanted: _, b: _ } => Kept::Nothing,
+        SourceStage::ReadFirst { haul } => held(haul),
+        SourceStage::Copy { haul, i: _ } => held(haul),
+        SourceStage::ReloadRing { haul } => held(haul),
+        SourceStage::ExchangeAll { haul } => held(haul),
+        SourceStage::ExchangeFirst { haul, job: _ } => held(haul),
+        SourceStage::ReloadBack { haul, i: _ } => held(haul),
+        SourceStage::Read { haul, i: _ } => held(haul),
+        SourceStage::ReloadRingOne { haul, i: _, job: _ } => held(haul),
+        SourceStage::ExchangeOne { haul, i: _, job: _ } => held(haul),
+    }
+}
+
+fn own_keeps(at: OwnStage) -> Kept
+    ensures { λ r. ⌜ r ≡ ownKeeps at ⌝ }
+{
+    match at {
+        OwnStage::ReserveLoadBack { wanted: _ } => Kept::Nothing,
+        OwnStage::ReserveLoadFront { wanted: _, b: _ } => Kept::Nothing,
+        OwnStage::Resize { wanted: _, at } => resize_keeps(at),
+        OwnStage::LoadBack { wanted: _ } => Kept::Nothing,
+        OwnStage::WriteCopy { haul, i: _, job: _ } => held(haul),
+        OwnStage::WriteOne { haul, i: _, job: _ } => held(haul),
+        OwnStage::SwapReadNear { haul, x: _ } => held(haul),
+        OwnStage::SwapReadFar {
+            haul,
+            x: _,
+            near: _,
+        } => held(haul),
+        OwnStage::SwapWriteNear {
+            haul,
+            x: _,
+            near: _,
+            far: _,
+        } => held(haul),
+        OwnStage::SwapWriteFar {
+            haul,
+            x: _,
+            near: _,
+        } => held(haul),
+        OwnStage::StoreBack { haul } => held(haul),
+    }
+}
+
+pub fn ring_kept(stage: Stage) -> Kept
+    ensures { λ r. ⌜ r ≡ keptOf stage ⌝ }
+{
+    match stage {
+        Stage::Idle => Kept::Nothing,
+        Stage::Push(_, at) => push_keeps(at),
+        Stage::Pop(_, at) => pop_keeps(at),
+        Stage::Steal(_, at) => steal_keeps(at),
+        Stage::Length(_, _) => Kept::Nothing,
+        Stage::OwnBatch(_) => Kept::Nothing,
+        Stage::BatchSource(_, at) => source_keeps(at),
+        Stage::BatchOwn(_, at) => own_keeps(at),
+    }
+}

@@ -1,0 +1,215 @@
+// Where a thread stands in its operation, with what it remembers there. A variant is the step to be made next, named after its line in
+// the tables; b and f are a back and a front that were loaded.
+use index::Index;
+use ring::Ring;
+
+// A resize of the own queue to a capacity; then to a ring that was claimed.
+pub enum ResizeStage {
+    LoadBack { capacity: usize },
+    LoadFront { capacity: usize, b: Index },
+    Copy { b: Index, i: Index, ring: Ring },
+    Swap { ring: Ring },
+}
+
+pub enum PushStage {
+    LoadBack,
+    LoadFront { b: Index },
+    Resize { b: Index, at: ResizeStage },
+    Write { b: Index },
+    StoreBack { b: Index },
+}
+
+// seen: the difference first seen, which is above 0 there.
+pub enum FifoPopStage {
+    LoadBack,
+    LoadFront { b: Index },
+    FetchAdd { b: Index, seen: u64 },
+    RestoreFront { f: Index },
+    Read { f: Index, seen: u64 },
+}
+
+// left: the difference b - 1 - f, which is above 0 there.
+pub enum LifoPopStage {
+    LoadBack,
+    LoadFront { b: Index },
+    StoreBack { b: Index },
+    ReloadFront { b: Index },
+    RestoreBack { b: Index },
+    ReadLast { b: Index, f: Index },
+    Exchange { b: Index, f: Index, job: u64 },
+    RestoreBackWon { b: Index, job: u64 },
+    Read { b: Index, left: u64 },
+}
+
+pub enum PopStage {
+    Fifo(FifoPopStage),
+    Lifo(LifoPopStage),
+    Shrink { job: u64, at: ResizeStage },
+}
+
+// Who pops: a pop, or a batch and pop from the thread's own queue, which answers as a steal does.
+pub enum Popper {
+    Pop,
+    BatchAndPop,
+}
+
+// The ring is held from its load until the answer.
+pub enum StealStage {
+    LoadFront,
+    LoadBack { f: Index },
+    LoadRing { f: Index },
+    Read { f: Index, ring: Ring },
+    ReloadRing { f: Index, ring: Ring, job: u64 },
+    Exchange { f: Index, ring: Ring, job: u64 },
+}
+
+pub enum LengthStage {
+    LoadBack,
+    LoadFront { b: Index },
+}
+
+// A batch moves jobs; a batch and pop also answers one.
+pub enum BatchKind {
+    Batch,
+    BatchAndPop,
+}
+
+// n jobs from f on are wanted for the own queue.
+pub struct Wanted {
+    pub kind: BatchKind,
+    pub f: Index,
+    pub n: u64,
+}
+
+// The job that a batch and pop is to answer.
+pub enum InHand {
+    Nothing,
+    Job(u64),
+}
+
+// From the load of the source's ring on: the ring, held until the answer; the source's front f; how many jobs go to the own queue, from
+// its back b on.
+pub struct Haul {
+    pub ring: Ring,
+    pub f: Index,
+    pub n: u64,
+    pub b: Index,
+    pub in_hand: InHand,
+}
+
+// The steps of a batch on its source. others: the limit less one. i: jobs copied or taken so far.
+pub enum SourceStage {
+    LoadFront {
+        kind: BatchKind,
+        others: u64,
+    },
+    LoadBack {
+        kind: BatchKind,
+        others: u64,
+        f: Index,
+    },
+    LoadRing {
+        wanted: Wanted,
+        b: Index,
+    },
+    ReadFirst {
+        haul: Haul,
+    },
+    // from a FIFO source, all at once
+    Copy {
+        haul: Haul,
+        i: u64,
+    },
+    ReloadRing {
+        haul: Haul,
+    },
+    ExchangeAll {
+        haul: Haul,
+    },
+    // from a LIFO source, one by one
+    ExchangeFirst {
+        haul: Haul,
+        job: u64,
+    },
+    ReloadBack {
+        haul: Haul,
+        i: u64,
+    },
+    Read {
+        haul: Haul,
+        i: u64,
+    },
+    ReloadRingOne {
+        haul: Haul,
+        i: u64,
+        job: u64,
+    },
+    ExchangeOne {
+        haul: Haul,
+        i: u64,
+        job: u64,
+    },
+}
+
+// The steps of a batch on the thread's own queue. x: swaps made so far.
+pub enum OwnStage {
+    ReserveLoadBack {
+        wanted: Wanted,
+    },
+    ReserveLoadFront {
+        wanted: Wanted,
+        b: Index,
+    },
+    Resize {
+        wanted: Wanted,
+        at: ResizeStage,
+    },
+    LoadBack {
+        wanted: Wanted,
+    },
+    WriteCopy {
+        haul: Haul,
+        i: u64,
+        job: u64,
+    },
+    WriteOne {
+        haul: Haul,
+        i: u64,
+        job: u64,
+    },
+    SwapReadNear {
+        haul: Haul,
+        x: u64,
+    },
+    SwapReadFar {
+        haul: Haul,
+        x: u64,
+        near: u64,
+    },
+    SwapWriteNear {
+        haul: Haul,
+        x: u64,
+        near: u64,
+        far: u64,
+    },
+    SwapWriteFar {
+        haul: Haul,
+        x: u64,
+        near: u64,
+    },
+    StoreBack {
+        haul: Haul,
+    },
+}
+
+// Of a steal, a length and a batch the first number is the queue that it names.
+pub enum Stage {
+    Idle,
+    Push(u64, PushStage),
+    Pop(Popper, PopStage),
+    Steal(usize, StealStage),
+    Length(usize, LengthStage),
+    OwnBatch(LengthStage),
+    BatchSource(usize, SourceStage),
+    BatchOwn(usize, OwnStage),
+}

@@ -1,0 +1,4 @@
+pub mod Play
+pub mod Table
+pub mod Sizes
+pub mod Race

@@ -1,0 +1,4 @@
+pub mod StateLaws
+pub mod SoundLaws
+pub mod SetupLaws
+pub mod Loops

@@ -1,0 +1,74 @@
+-- Begin stores the operation and touches nothing shared. It tests 3, 1, 4 (thread, then source), 5, 7.
+use Prim.Native.Nat.{ℕ, _-_}
+use mathlib.Core.Bool.{Bool, true, not}
+use mathlib.Core.List.{List}
+use lib.Dec.{eqb, ltb}
+use lib.ListN.{length}
+use Rattle.base.specs.Tests.{pick}
+use Rattle.core.specs.declared.queue.Flavor.{Flavor}
+use Rattle.core.specs.declared.queue.Flavor.the-variants as F
+use Rattle.core.specs.declared.stage.FifoPopStage.the-variants as D
+use Rattle.core.specs.declared.stage.LifoPopStage.the-variants as L
+use Rattle.core.specs.declared.stage.PushStage.the-variants as U
+use Rattle.core.specs.declared.stage.PopStage.{PopStage}
+use Rattle.core.specs.declared.stage.PopStage.the-variants as P
+use Rattle.core.specs.declared.stage.Popper.the-variants as W
+use Rattle.core.specs.declared.stage.StealStage.the-variants as T
+use Rattle.core.specs.declared.stage.LengthStage.the-variants as N
+use Rattle.core.specs.declared.stage.BatchKind.the-variants as K
+use Rattle.core.specs.declared.stage.SourceStage.the-variants as S
+use Rattle.core.specs.declared.stage.Stage.{Stage}
+use Rattle.core.specs.declared.stage.Stage.the-variants as G
+use Rattle.core.specs.declared.answer.Answer.the-variants.{Working}
+use Rattle.core.specs.declared.answer.Refusal.the-variants.{NoSuch, Busy, NoLimit}
+use Rattle.core.specs.Stages.{idleB}
+use Rattle.machine.specs.declared.operation.Operation.{Operation}
+use Rattle.machine.specs.declared.operation.Operation.the-variants.{Push, Pop, Length, Steal, Batch, BatchAndPop}
+use Rattle.machine.specs.declared.operation.Gate.{Gate}
+use Rattle.machine.specs.declared.operation.Gate.the-variants.{Open, Shut}
+use Rattle.machine.specs.declared.state.Machine.{Machine}
+use Rattle.machine.specs.State.{After, after, ownQueue, queueAt, stageAt, withStage}
+use Rattle.machine.specs.Step.{gateOf, thenGate, passing}
+
+-- the queue that the operation names exists; k is the queue count
+abbrev pub namesB : ℕ → Operation → Bool
+namesB k (Push job) = true
+namesB k Pop = true
+namesB k (Length q) = ltb q k
+namesB k (Steal src) = ltb src k
+namesB k (Batch src limit) = ltb src k
+namesB k (BatchAndPop src limit) = ltb src k
+
+-- the limit, if there is one, is not 0
+abbrev pub limitB : Operation → Bool
+limitB (Push job) = true
+limitB Pop = true
+limitB (Length q) = true
+limitB (Steal src) = true
+limitB (Batch src limit) = not (eqb limit 0)
+limitB (BatchAndPop src limit) = not (eqb limit 0)
+
+-- a begin that passed the gate
+abbrev pub beginGate : ℕ → Stage → Operation → Gate
+beginGate k s o = pick (namesB k o) (pick (idleB s) (pick (limitB o) Open (Shut NoLimit)) (Shut Busy)) (Shut NoSuch)
+
+abbrev pub popping : Flavor → PopStage
+popping F.Fifo = P.Fifo D.LoadBack
+popping F.Lifo = P.Lifo L.LoadBack
+
+-- the first stage, for a thread whose own queue is t. From the own queue a batch looks, and a batch and pop pops
+abbrev pub firstStage : Flavor → ℕ → Operation → Stage
+firstStage own t (Push job) = G.Push job U.LoadBack
+firstStage own t Pop = G.Pop W.Pop (popping own)
+firstStage own t (Length q) = G.Length q N.LoadBack
+firstStage own t (Steal src) = G.Steal src T.LoadFront
+firstStage own t (Batch src limit) = pick (eqb src t) (G.OwnBatch N.LoadBack) (G.BatchSource src (S.LoadFront K.Batch (limit - 1)))
+firstStage own t (BatchAndPop src limit) =
+    pick (eqb src t) (G.Pop W.BatchAndPop (popping own)) (G.BatchSource src (S.LoadFront K.BatchAndPop (limit - 1)))
+
+abbrev pub begun : Machine → List ℕ → ℕ → Operation → After
+begun m cells t o = after (withStage m t (firstStage (queueAt m (ownQueue t) .flavor) (ownQueue t) o)) Working cells
+
+unfoldable pub beginOf : Machine → List ℕ → ℕ → Operation → After
+beginOf m cells t o =
+    passing (thenGate (gateOf m (length cells) t) (beginGate (m .«queue_count») (stageAt m t) o)) m cells (begun m cells t o)

@@ -1,0 +1,7 @@
+pub mod State
+pub mod Sound
+pub mod Claim
+pub mod Setup
+pub mod Step
+pub mod Begin
+pub mod Shown

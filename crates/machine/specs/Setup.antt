@@ -1,0 +1,56 @@
+-- At setup queue q has ring q in place q, capacity 64; setup writes no cell. Setup tests 2, then 1; a refused one gives the machine of zeros.
+use Prim.Native.Nat.{ℕ, _*_}
+use mathlib.Core.List.{List, [], _∷_}
+use lib.Dec.{eqb, ltb}
+use lib.ListN.{length, getD}
+use Rattle.base.specs.Tests.{pick}
+use Rattle.ring.specs.Capacity.{smallest}
+use Rattle.cells.specs.Cells.{placeCells}
+use Rattle.sound.specs.Sound.{countsB}
+use Rattle.core.specs.declared.queue.Flavor.{Flavor}
+use Rattle.core.specs.declared.queue.Flavor.the-variants.{Fifo}
+use Rattle.core.specs.declared.queue.Queue.{Queue}
+use Rattle.core.specs.declared.answer.Answer.the-variants.{Done}
+use Rattle.core.specs.declared.answer.Refusal.the-variants.{PoolLength, Counts}
+use Rattle.machine.specs.declared.state.Thread.{Thread}
+use Rattle.machine.specs.declared.state.Machine.{Machine}
+use Rattle.machine.specs.State.{After, after, refused, zeroIndex, zeroQueue, idleThread}
+
+abbrev pub idleThreads : List Thread
+idleThreads = idleThread ∷ idleThread ∷ idleThread ∷ idleThread ∷ []
+
+abbrev pub zeroMachine : Machine
+zeroMachine = record {
+  queues = zeroQueue ∷ zeroQueue ∷ zeroQueue ∷ zeroQueue ∷ [];
+  threads = idleThreads;
+  «queue_count» = 0;
+  «place_count» = 0;
+  «next_ring» = record { 0 = 0 };
+}
+
+abbrev pub freshQueue : ℕ → List Flavor → ℕ → Queue
+freshQueue k flavors q =
+    pick (ltb q k)
+    (record {
+      flavor = getD flavors q Fifo;
+      front = zeroIndex;
+      back = zeroIndex;
+      ring = record { number = record { 0 = q }; place = record { 0 = q }; capacity = smallest };
+    })
+    zeroQueue
+
+abbrev pub freshMachine : ℕ → List Flavor → ℕ → Machine
+freshMachine k flavors n = record {
+  queues = freshQueue k flavors 0 ∷ freshQueue k flavors 1 ∷ freshQueue k flavors 2 ∷ freshQueue k flavors 3 ∷ [];
+  threads = idleThreads;
+  «queue_count» = k;
+  «place_count» = n;
+  «next_ring» = record { 0 = k };
+}
+
+-- k queues of these flavours, n places
+unfoldable pub setupOf : ℕ → List Flavor → ℕ → List ℕ → After
+setupOf k flavors n cells =
+    pick (countsB k n)
+    (pick (eqb (length cells) (n * placeCells)) (after (freshMachine k flavors n) Done cells) (refused zeroMachine PoolLength cells))
+    (refused zeroMachine Counts cells)

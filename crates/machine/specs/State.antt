@@ -1,0 +1,89 @@
+-- The machine's parts, and the machine with one part changed.
+use Prim.Native.Nat.{ℕ, _+_, _%_, _^_}
+use mathlib.Core.List.{List}
+use lib.IntN.{pos}
+use lib.ListN.{getD, set}
+use Rattle.index.specs.declared.Index.{Index}
+use Rattle.core.specs.declared.queue.Flavor.the-variants.{Fifo}
+use Rattle.core.specs.declared.queue.Queue.{Queue}
+use Rattle.core.specs.declared.stage.Stage.{Stage}
+use Rattle.core.specs.declared.stage.Stage.the-variants.{Idle}
+use Rattle.core.specs.declared.answer.Answer.{Answer}
+use Rattle.core.specs.declared.answer.Answer.the-variants.{Refused}
+use Rattle.core.specs.declared.answer.Refusal.{Refusal}
+use Rattle.core.specs.declared.out.Claim.{Claim}
+use Rattle.core.specs.declared.out.Claim.the-variants.{Nothing, Got}
+use Rattle.machine.specs.declared.state.Thread.{Thread}
+use Rattle.machine.specs.declared.state.Machine.{Machine}
+use Rattle.machine.specs.declared.state.Called.{Called}
+
+-- what a call leaves: the machine with the answer, and the pool's cells
+pub record After : Type 0 where
+  pub called : Called
+  pub cells : List ℕ
+
+abbrev pub leaves : Called → List ℕ → After
+leaves c cells = record { called = c; cells = cells }
+
+abbrev pub after : Machine → Answer → List ℕ → After
+after m a cells = leaves (record { machine = m; answer = a }) cells
+
+-- all as it was
+abbrev pub refusedOf : Machine → Refusal → Called
+refusedOf m r = record { machine = m; answer = Refused r }
+
+abbrev pub refused : Machine → Refusal → List ℕ → After
+refused m r cells = leaves (refusedOf m r) cells
+
+-- thread t owns queue t
+abbrev pub ownQueue : ℕ → ℕ
+ownQueue t = t
+
+abbrev pub zeroIndex : Index
+zeroIndex = record { 0 = pos 0 }
+
+abbrev pub zeroQueue : Queue
+zeroQueue = record {
+  flavor = Fifo;
+  front = zeroIndex;
+  back = zeroIndex;
+  ring = record { number = record { 0 = 0 }; place = record { 0 = 0 }; capacity = 0 };
+}
+
+abbrev pub idleThread : Thread
+idleThread = record { stage = Idle }
+
+abbrev pub queueAt : Machine → ℕ → Queue
+queueAt m k = getD (m .queues) k zeroQueue
+
+abbrev pub stageAt : Machine → ℕ → Stage
+stageAt m t = getD (m .threads) t idleThread .stage
+
+abbrev pub withQueue : Machine → ℕ → Queue → Machine
+withQueue m k q = record {
+  queues = set (m .queues) k q;
+  threads = m .threads;
+  «queue_count» = m .«queue_count»;
+  «place_count» = m .«place_count»;
+  «next_ring» = m .«next_ring»;
+}
+
+abbrev pub withStage : Machine → ℕ → Stage → Machine
+withStage m t s = record {
+  queues = m .queues;
+  threads = set (m .threads) t (record { stage = s });
+  «queue_count» = m .«queue_count»;
+  «place_count» = m .«place_count»;
+  «next_ring» = m .«next_ring»;
+}
+
+-- ring numbers count up: the next, after a claim
+abbrev pub counted : Machine → Claim → Machine
+counted m Nothing = m
+counted m (Got number place) = record {
+  queues = m .queues;
+  threads = m .threads;
+  «queue_count» = m .«queue_count»;
+  «place_count» = m .«place_count»;
+  «next_ring» = record { 0 = (number .0 + 1) % 2 ^ 64 };
+}

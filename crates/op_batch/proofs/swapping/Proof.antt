@@ -1,0 +1,13 @@
+-- The test on how many swaps are made is the one of the definition.
+use borrow.Author.Tests.{le-leb, lt-leb}
+use Rattle.op_batch.proofs.swapping.Statement.{statement}
+use Rattle.op_batch.proofs.swapping.Tie as tie
+
+returns : tie.Need-returns
+returns c = rw (le-leb _ _ (c .if1 .taken))
+
+returns-2 : tie.Need-returns-2
+returns-2 c = rw (lt-leb _ _ (c .if1 .left))
+
+pub swapping-spec : {M : Type 1} → statement M
+swapping-spec = tie.close (tie.spec returns returns-2)

@@ -1,0 +1,105 @@
+-- What both halves of a batch share: how many jobs it wants, which stage comes next, which cells it works on.
+use Prim.Native.Nat.{ℕ, suc, _+_, _-_, _/_, min}
+use mathlib.Core.Bool.{Bool, true, false, _&&_}
+use lib.Dec.{leb, eqb}
+use Rattle.base.specs.Tests.{pick}
+use Rattle.index.specs.declared.Index.{Index}
+use Rattle.index.specs.Index.{plusOf}
+use Rattle.ring.specs.declared.Ring.{Ring}
+use Rattle.steal.specs.declared.Steal.the-variants.{Success, Retry}
+use Rattle.core.specs.declared.queue.Flavor.{Flavor}
+use Rattle.core.specs.declared.queue.Flavor.the-variants.{Fifo, Lifo}
+use Rattle.core.specs.declared.queue.Queue.{Queue}
+use Rattle.core.specs.declared.stage.BatchKind.{BatchKind}
+use Rattle.core.specs.declared.stage.BatchKind.the-variants.{Batch, BatchAndPop}
+use Rattle.core.specs.declared.stage.InHand.{InHand}
+use Rattle.core.specs.declared.stage.InHand.the-variants.{Nothing, Job}
+use Rattle.core.specs.declared.stage.Wanted.{Wanted}
+use Rattle.core.specs.declared.stage.Haul.{Haul}
+use Rattle.core.specs.declared.stage.SourceStage.the-variants as S
+use Rattle.core.specs.declared.stage.OwnStage.the-variants as O
+use Rattle.core.specs.declared.stage.Stage.{Stage}
+use Rattle.core.specs.declared.stage.Stage.the-variants.{BatchSource, BatchOwn}
+use Rattle.core.specs.declared.answer.Answer.{Answer}
+use Rattle.core.specs.declared.answer.Answer.the-variants.{Stolen, Moved}
+use Rattle.core.specs.declared.out.Out.{Out}
+use Rattle.core.specs.Out.{going, ended}
+
+-- n, of a difference d and a limit, which is others + 1: n = min((d + 1) / 2, limit); of a batch and pop min((d - 1) / 2, limit - 1)
+abbrev pub wantedOf : BatchKind → ℕ → ℕ → ℕ
+wantedOf Batch d others = min ((d + 1) / 2) (others + 1)
+wantedOf BatchAndPop d others = min ((d - 1) / 2) others
+
+-- reserve n in the own queue, if n > 0
+abbrev pub reserving : ℕ → Wanted → Stage
+reserving k w = pick (eqb (w .n) 0) (BatchOwn k (O.LoadBack w)) (BatchOwn k (O.ReserveLoadBack w))
+
+abbrev pub hauling : Ring → Wanted → Index → Haul
+hauling ring w b = record { ring = ring; f = w .f; n = w .n; b = b; «in_hand» = Nothing }
+
+abbrev pub withJob : Haul → ℕ → Haul
+withJob h job = record { ring = h .ring; f = h .f; n = h .n; b = h .b; «in_hand» = Job job }
+
+-- an exchange was won: f goes up
+abbrev pub onward : Haul → InHand → Haul
+onward h j = record { ring = h .ring; f = plusOf (h .f) 1; n = h .n; b = h .b; «in_hand» = j }
+
+abbrev pub withCount : Haul → ℕ → Haul
+withCount h i = record { ring = h .ring; f = h .f; n = i; b = h .b; «in_hand» = h .«in_hand» }
+
+-- ---- FIFO source: for each of n, read source cell, write own cell (into LIFO: last first)
+
+-- the first of the n jobs: at f, or at f + 1 where the job at f is in hand
+abbrev pub firstOf : InHand → Index → Index
+firstOf Nothing f = f
+firstOf (Job job) f = plusOf f 1
+
+-- i copied: the next, or load ring
+abbrev pub copying : ℕ → Haul → ℕ → Stage
+copying k h i = pick (leb (h .n) i) (BatchSource k (S.ReloadRing h)) (BatchSource k (S.Copy h i))
+
+-- the i-th of n from the other end
+abbrev pub mirrorOf : ℕ → ℕ → ℕ
+mirrorOf n i = n - suc i
+
+-- the own index that takes the i-th of n
+abbrev pub slotOf : Flavor → Haul → ℕ → Index
+slotOf Fifo h i = plusOf (h .b) i
+slotOf Lifo h i = plusOf (h .b) (mirrorOf (h .n) i)
+
+-- ---- LIFO source, n times
+
+-- swaps from the outside in, x made: the next, or store own back
+abbrev pub swapping : ℕ → Haul → ℕ → Stage
+swapping k h x = pick (leb (h .n / 2) x) (BatchOwn k (O.StoreBack h)) (BatchOwn k (O.SwapReadNear h x))
+
+-- into FIFO: reverse what was written
+abbrev pub landing : Flavor → ℕ → Haul → Stage
+landing Fifo k h = swapping k h 0
+landing Lifo k h = BatchOwn k (O.StoreBack h)
+
+abbrev pub isNothing : InHand → Bool
+isNothing Nothing = true
+isNothing (Job job) = false
+
+-- stop, with i written. None taken: Retry
+abbrev pub stopped : Flavor → ℕ → Haul → ℕ → Queue → Out
+stopped own k h i q =
+    pick (isNothing (h .«in_hand») && eqb i 0) (ended q (Stolen Retry)) (going q (landing own k (withCount h i)))
+
+-- i written: load back for the next, or stop after n
+abbrev pub turning : Flavor → ℕ → Haul → ℕ → Queue → Out
+turning own k h i q = pick (leb (h .n) i) (stopped own k h (h .n) q) (going q (BatchSource k (S.ReloadBack h i)))
+
+-- the exchange for a job was won: what to write (of a batch and pop the PREVIOUS job), and what is then in hand
+abbrev pub toWrite : InHand → ℕ → ℕ
+toWrite Nothing job = job
+toWrite (Job previous) job = previous
+
+abbrev pub nextInHand : InHand → ℕ → InHand
+nextInHand Nothing job = Nothing
+nextInHand (Job previous) job = Job job
+
+abbrev pub answerOf : InHand → Answer
+answerOf Nothing = Moved
+answerOf (Job job) = Stolen (Success job)

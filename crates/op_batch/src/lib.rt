@@ -1,0 +1,218 @@
+// What both halves of a batch share: how many jobs it wants, which stage comes next, which cells it works on.
+ghost use mathlib.Core.Path.{_≡_};
+ghost use Prim.Native.Nat.{_+_, min};
+ghost use lib.Dec.{leb};
+ghost use Rattle.op_batch.specs.Haul.{wantedOf, reserving as reservingOf, withJob, onward as onwardOf, withCount, firstOf, copying as copyingOf, mirrorOf, slotOf, swapping as swappingOf, landing as landingOf, isNothing, stopped as stoppedOf, turning as turningOf, toWrite, nextInHand, answerOf};
+use core::answer::Answer;
+use core::out::Out;
+use core::queue::Flavor;
+use core::queue::Queue;
+use core::stage::BatchKind;
+use core::stage::Haul;
+use core::stage::InHand;
+use core::stage::OwnStage;
+use core::stage::SourceStage;
+use core::stage::Stage;
+use core::stage::Wanted;
+use index::Index;
+use steal::Steal;
+
+fn smaller(a: u64, b: u64) -> u64
+    ensures { λ r. ⌜ r ≡ min a b ⌝ }
+{
+    if a <= b { a } else { b }
+}
+
+// How many jobs to move, of a source with length d, where the limit is others + 1.
+pub fn wanted(kind: BatchKind, d: u64, others: u64) -> u64
+    ensures { λ r. ⌜ r ≡ wantedOf kind d others ⌝ }
+{
+    match kind {
+        BatchKind::Batch => {
+            let half = d / 2 + d % 2;
+            if half <= others { half } else { others + 1 }
+        }
+        BatchKind::BatchAndPop => {
+            if d == 0 {
+                return 0;
+            }
+            smaller((d - 1) / 2, others)
+        }
+    }
+}
+
+// Reserve room in the own queue, if there is anything to move.
+pub fn reserving(source: usize, wanted: Wanted) -> Stage
+    ensures { λ r. ⌜ r ≡ reservingOf source wanted ⌝ }
+{
+    if wanted.n == 0 {
+        return Stage::BatchOwn(source, OwnStage::LoadBack { wanted });
+    }
+    Stage::BatchOwn(source, OwnStage::ReserveLoadBack { wanted })
+}
+
+pub fn with_job(haul: Haul, job: u64) -> Haul
+    ensures { λ r. ⌜ r ≡ withJob haul job ⌝ }
+{
+    let ring = haul.ring;
+    let f = haul.f;
+    let b = haul.b;
+    Haul {
+        ring,
+        f,
+        n: haul.n,
+        b,
+        in_hand: InHand::Job(job),
+    }
+}
+
+// An exchange was won: f goes up.
+pub fn onward(haul: Haul, in_hand: InHand) -> Haul
+    ensures { λ r. ⌜ r ≡ onwardOf haul «in_hand» ⌝ }
+{
+    let ring = haul.ring;
+    let b = haul.b;
+    Haul {
+        ring,
+        f: haul.f.plus(1),
+        n: haul.n,
+        b,
+        in_hand,
+    }
+}
+
+fn with_count(haul: Haul, n: u64) -> Haul
+    ensures { λ r. ⌜ r ≡ withCount haul n ⌝ }
+{
+    let mut r = haul;
+    r.n = n;
+    r
+}
+
+// Whether n is reached once one more than i is done.
+pub fn reached(i: u64, n: u64) -> bool
+    ensures { λ r. ⌜ r ≡ leb n (i + 1) ⌝ }
+{
+    if n <= i {
+        return true;
+    }
+    n <= i + 1
+}
+
+// The first of the jobs to be copied: at f, or the next where the job at f is in hand.
+pub fn first(in_hand: InHand, f: Index) -> Index
+    ensures { λ r. ⌜ r ≡ firstOf «in_hand» f ⌝ }
+{
+    match in_hand {
+        InHand::Nothing => f,
+        InHand::Job(_) => f.plus(1),
+    }
+}
+
+// So many are copied: the next, or load the ring again.
+pub fn copying(source: usize, haul: Haul, i: u64) -> Stage
+    ensures { λ r. ⌜ r ≡ copyingOf source haul i ⌝ }
+{
+    if haul.n <= i {
+        return Stage::BatchSource(source, SourceStage::ReloadRing { haul });
+    }
+    Stage::BatchSource(source, SourceStage::Copy { haul, i })
+}
+
+// The i-th of n from the other end.
+pub fn mirror(n: u64, i: u64) -> u64
+    ensures { λ r. ⌜ r ≡ mirrorOf n i ⌝ }
+{
+    if i < n { n - 1 - i } else { 0 }
+}
+
+// The own index that takes the i-th job copied: into a LIFO queue last first.
+pub fn slot(own: Flavor, haul: Haul, i: u64) -> Index
+    ensures { λ r. ⌜ r ≡ slotOf own haul i ⌝ }
+{
+    match own {
+        Flavor::Fifo => haul.b.plus(i),
+        Flavor::Lifo => haul.b.plus(mirror(haul.n, i)),
+    }
+}
+
+// So many swaps are made: the next, or store the own back.
+pub fn swapping(source: usize, haul: Haul, x: u64) -> Stage
+    ensures { λ r. ⌜ r ≡ swappingOf source haul x ⌝ }
+{
+    if haul.n / 2 <= x {
+        return Stage::BatchOwn(source, OwnStage::StoreBack { haul });
+    }
+    Stage::BatchOwn(source, OwnStage::SwapReadNear { haul, x })
+}
+
+// All is written: into a FIFO queue it is reversed.
+fn landing(own: Flavor, source: usize, haul: Haul) -> Stage
+    ensures { λ r. ⌜ r ≡ landingOf own source haul ⌝ }
+{
+    match own {
+        Flavor::Fifo => swapping(source, haul, 0),
+        Flavor::Lifo => Stage::BatchOwn(source, OwnStage::StoreBack { haul }),
+    }
+}
+
+fn is_nothing(in_hand: InHand) -> bool
+    ensures { λ r. ⌜ r ≡ isNothing «in_hand» ⌝ }
+{
+    match in_hand {
+        InHand::Nothing => true,
+        InHand::Job(_) => false,
+    }
+}
+
+// Taking one by one is over, with so many written.
+pub fn stopped(own: Flavor, source: usize, haul: Haul, i: u64, q: Queue) -> Out
+    ensures { λ r. ⌜ r ≡ stoppedOf own source haul i q ⌝ }
+{
+    let in_hand = haul.in_hand;
+    if is_nothing(in_hand) & (i == 0) {
+        return Out::ended(q, Answer::Stolen(Steal::Retry));
+    }
+    Out::going(q, landing(own, source, with_count(haul, i)))
+}
+
+// So many are written: load the back again for the next, or stop after n.
+pub fn turning(own: Flavor, source: usize, haul: Haul, i: u64, q: Queue) -> Out
+    ensures { λ r. ⌜ r ≡ turningOf own source haul i q ⌝ }
+{
+    if haul.n <= i {
+        return stopped(own, source, haul, haul.n, q);
+    }
+    Out::going(
+        q,
+        Stage::BatchSource(source, SourceStage::ReloadBack { haul, i }),
+    )
+}
+
+// The exchange for a job was won: what to write, of a batch and pop the previous job.
+pub fn to_write(in_hand: InHand, job: u64) -> u64
+    ensures { λ r. ⌜ r ≡ toWrite «in_hand» job ⌝ }
+{
+    match in_hand {
+        InHand::Nothing => job,
+        InHand::Job(previous) => previous,
+    }
+}
+
+pub fn next_in_hand(in_hand: InHand, job: u64) -> InHand
+    ensures { λ r. ⌜ r ≡ nextInHand «in_hand» job ⌝ }
+{
+    match in_hand {
+        InHand::Nothing => InHand::Nothing,
+        InHand::Job(_previous) => InHand::Job(job),
+    }
+}
+
+pub fn answer(in_hand: InHand) -> Answer
+    ensures { λ r. ⌜ r ≡ answerOf «in_hand» ⌝ }
+{
+    match in_hand {
+        InHand::Nothing => Answer::Moved,
+        InHand::Job(job) => Answer::Stolen(Steal::Success(job)),
+    }
+}

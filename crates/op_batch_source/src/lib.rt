@@ -1,0 +1,194 @@
+// The steps of a batch on its source.
+ghost use mathlib.Core.Path.{_≡_};
+ghost use Rattle.op_batch.specs.Haul.{hauling as haulingOf};
+ghost use Rattle.op_batch_source.specs.Source.{taking as takingOf, held as heldOf, firstRead, sourceOf};
+use cells::read;
+use core::answer::Answer;
+use core::out::Out;
+use core::queue::Flavor;
+use core::queue::Queue;
+use core::stage::BatchKind;
+use core::stage::Haul;
+use core::stage::InHand;
+use core::stage::OwnStage;
+use core::stage::SourceStage;
+use core::stage::Stage;
+use core::stage::Wanted;
+use index::Index;
+use op_batch::copying;
+use op_batch::first;
+use op_batch::next_in_hand;
+use op_batch::onward;
+use op_batch::reserving;
+use op_batch::stopped;
+use op_batch::to_write;
+use op_batch::turning;
+use op_batch::wanted;
+use op_batch::with_job;
+use ring::Ring;
+use steal::Steal;
+
+// From here on the ring is held.
+fn hauling(ring: Ring, wanted: Wanted, b: Index) -> Haul
+    ensures { λ r. ⌜ r ≡ haulingOf ring wanted b ⌝ }
+{
+    let f = wanted.f;
+    Haul {
+        ring,
+        f,
+        n: wanted.n,
+        b,
+        in_hand: InHand::Nothing,
+    }
+}
+
+// A batch takes by the source's flavour: all at once, or one by one.
+fn taking(flavor: Flavor, own: Flavor, source: usize, haul: Haul, q: Queue) -> Out
+    ensures { λ r. ⌜ r ≡ takingOf flavor own source haul q ⌝ }
+{
+    match flavor {
+        Flavor::Fifo => Out::going(q, copying(source, haul, 0)),
+        Flavor::Lifo => {
+            if haul.n <= 0 {
+                return stopped(own, source, haul, 0, q);
+            }
+            Out::going(
+                q,
+                Stage::BatchSource(source, SourceStage::Read { haul, i: 0 }),
+            )
+        }
+    }
+}
+
+fn held(kind: BatchKind, own: Flavor, source: usize, haul: Haul, q: Queue) -> Out
+    ensures { λ r. ⌜ r ≡ heldOf kind own source haul q ⌝ }
+{
+    match kind {
+        BatchKind::Batch => {
+            let flavor = q.flavor;
+            taking(flavor, own, source, haul, q)
+        }
+        BatchKind::BatchAndPop => Out::going(
+            q,
+            Stage::BatchSource(source, SourceStage::ReadFirst { haul }),
+        ),
+    }
+}
+
+// A batch and pop has read its first job.
+fn first_read(flavor: Flavor, source: usize, haul: Haul, job: u64) -> Stage
+    ensures { λ r. ⌜ r ≡ firstRead flavor source haul job ⌝ }
+{
+    match flavor {
+        Flavor::Fifo => copying(source, with_job(haul, job), 0),
+        Flavor::Lifo => Stage::BatchSource(source, SourceStage::ExchangeFirst { haul, job }),
+    }
+}
+
+// A step on the source q, whose number is source; own is the flavour of the thread's own queue.
+pub fn source_step(own: Flavor, source: usize, at: SourceStage, q: Queue, pool: &[u64]) -> Out
+    ensures { λ r. ⌜ r ≡ sourceOf own source at q (now (pool .entry)) ⌝ }
+{
+    match at {
+        SourceStage::LoadFront { kind, others } => {
+            let f = q.front;
+            Out::going(
+                q,
+                Stage::BatchSource(source, SourceStage::LoadBack { kind, others, f }),
+            )
+        }
+        SourceStage::LoadBack { kind, others, f } => {
+            if q.back.is_empty(f) {
+                return Out::ended(q, Answer::Stolen(Steal::Empty));
+            }
+            let n = wanted(kind, q.back.length(f), others);
+            Out::going(q, reserving(source, Wanted { kind, f, n }))
+        }
+        SourceStage::LoadRing { wanted, b } => {
+            let kind = wanted.kind;
+            held(kind, own, source, hauling(q.ring, wanted, b), q)
+        }
+        SourceStage::ReadFirst { haul } => {
+            let job = read(pool, haul.ring, haul.f);
+            let flavor = q.flavor;
+            Out::going(q, first_read(flavor, source, haul, job))
+        }
+        SourceStage::Copy { haul, i } => {
+            let in_hand = haul.in_hand;
+            let job = read(pool, haul.ring, first(in_hand, haul.f).plus(i));
+            Out::going(
+                q,
+                Stage::BatchOwn(source, OwnStage::WriteCopy { haul, i, job }),
+            )
+        }
+        SourceStage::ReloadRing { haul } => {
+            if q.ring.number.0 == haul.ring.number.0 {
+                return Out::going(
+                    q,
+                    Stage::BatchSource(source, SourceStage::ExchangeAll { haul }),
+                );
+            }
+            Out::ended(q, Answer::Stolen(Steal::Retry))
+        }
+        SourceStage::ExchangeAll { haul } => {
+            if q.front.is_same(haul.f) {
+                let in_hand = haul.in_hand;
+                let mut r = q;
+                r.front = first(in_hand, haul.f).plus(haul.n);
+                return Out::going(r, Stage::BatchOwn(source, OwnStage::StoreBack { haul }));
+            }
+            Out::ended(q, Answer::Stolen(Steal::Retry))
+        }
+        SourceStage::ExchangeFirst { haul, job } => {
+            if q.front.is_same(haul.f) {
+                let mut r = q;
+                r.front = haul.f.plus(1);
+                return turning(own, source, onward(haul, InHand::Job(job)), 0, r);
+            }
+            Out::ended(q, Answer::Stolen(Steal::Retry))
+        }
+        SourceStage::ReloadBack { haul, i } => {
+            if q.back.is_empty(haul.f) {
+                return stopped(own, source, haul, i, q);
+            }
+            Out::going(q, Stage::BatchSource(source, SourceStage::Read { haul, i }))
+        }
+        SourceStage::Read { haul, i } => {
+            let job = read(pool, haul.ring, haul.f);
+            Out::going(
+                q,
+                Stage::BatchSource(source, SourceStage::ReloadRingOne { haul, i, job }),
+            )
+        }
+        SourceStage::ReloadRingOne { haul, i, job } => {
+            if q.ring.number.0 == haul.ring.number.0 {
+                return Out::going(
+                    q,
+                    Stage::BatchSource(source, SourceStage::ExchangeOne { haul, i, job }),
+                );
+            }
+            stopped(own, source, haul, i, q)
+        }
+        SourceStage::ExchangeOne { haul, i, job } => {
+            if q.front.is_same(haul.f) {
+                let in_hand = haul.in_hand;
+                let mut r = q;
+                r.front = haul.f.plus(1);
+                let next = onward(haul, next_in_hand(in_hand, job));
+                let write = to_write(in_hand, job);
+                return Out::going(
+                    r,
+                    Stage::BatchOwn(
+                        source,
+                        OwnStage::WriteOne {
+                            haul: next,
+                            i,
+                            job: write,
+                        },
+                    ),
+                );
+            }
+            stopped(own, source, haul, i, q)
+        }
+    }
+}

@@ -1,0 +1,4 @@
+pub mod Shrink
+pub mod FifoPop
+pub mod LifoPop
+pub mod Pop
