@@ -7,6 +7,8 @@ use Rattle.core.specs.declared.stage.PushStage.{PushStage}
 use Rattle.core.specs.declared.stage.PushStage.the-variants as U
 use Rattle.core.specs.declared.stage.PopStage.{PopStage}
 use Rattle.core.specs.declared.stage.PopStage.the-variants as P
+use Rattle.core.specs.declared.stage.ReserveStage.{ReserveStage}
+use Rattle.core.specs.declared.stage.ReserveStage.the-variants as Y
 use Rattle.core.specs.declared.stage.OwnStage.{OwnStage}
 use Rattle.core.specs.declared.stage.OwnStage.the-variants as O
 use Rattle.core.specs.declared.stage.Stage.{Stage}
@@ -52,17 +54,17 @@ popClaims (P.Fifo at) = false
 popClaims (P.Lifo at) = false
 popClaims (P.Shrink job at) = resizeClaims at
 
+abbrev pub reserveClaims : ReserveStage → Bool
+reserveClaims (Y.LoadBack w) = false
+reserveClaims (Y.LoadFront w b) = false
+reserveClaims (Y.Resize w at) = resizeClaims at
+
 abbrev pub ownClaims : OwnStage → Bool
-ownClaims (O.ReserveLoadBack w) = false
-ownClaims (O.ReserveLoadFront w b) = false
-ownClaims (O.Resize w at) = resizeClaims at
+ownClaims (O.Reserve at) = reserveClaims at
 ownClaims (O.LoadBack w) = false
 ownClaims (O.WriteCopy h i job) = false
 ownClaims (O.WriteOne h i job) = false
-ownClaims (O.SwapReadNear h x) = false
-ownClaims (O.SwapReadFar h x near) = false
-ownClaims (O.SwapWriteNear h x near far) = false
-ownClaims (O.SwapWriteFar h x near) = false
+ownClaims (O.Swap at) = false
 ownClaims (O.StoreBack h) = false
 
 abbrev pub claimsB : Stage → Bool

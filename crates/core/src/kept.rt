@@ -1,14 +1,18 @@
 // The ring that a stage keeps alive beside the queues' current ones; there is never more than one.
 ghost use mathlib.Core.Path.{_≡_};
-ghost use Rattle.core.specs.Kept.{resizeKeeps, pushKeeps, popKeeps, stealKeeps, sourceKeeps, ownKeeps, keptOf};
+ghost use Rattle.core.specs.Kept.{resizeKeeps, pushKeeps, popKeeps, stealKeeps, allKeeps, oneKeeps, sourceKeeps, reserveKeeps, swapKeeps, ownKeeps, keptOf};
+use crate::stage::AllStage;
 use crate::stage::Haul;
+use crate::stage::OneStage;
 use crate::stage::OwnStage;
 use crate::stage::PopStage;
 use crate::stage::PushStage;
+use crate::stage::ReserveStage;
 use crate::stage::ResizeStage;
 use crate::stage::SourceStage;
 use crate::stage::Stage;
 use crate::stage::StealStage;
+use crate::stage::SwapStage;
 use ring::Ring;
 
 // A ring that is being built, from the claim to the swap, or one that is held, from its load until the answer.
@@ -71,6 +75,28 @@ fn held(haul: Haul) -> Kept
     Kept::Held(ring)
 }
 
+fn all_keeps(at: AllStage) -> Kept
+    ensures { λ r. ⌜ r ≡ allKeeps at ⌝ }
+{
+    match at {
+        AllStage::Copy { haul, i: _ } => held(haul),
+        AllStage::ReloadRing { haul } => held(haul),
+        AllStage::Exchange { haul } => held(haul),
+    }
+}
+
+fn one_keeps(at: OneStage) -> Kept
+    ensures { λ r. ⌜ r ≡ oneKeeps at ⌝ }
+{
+    match at {
+        OneStage::ExchangeFirst { haul, job: _ } => held(haul),
+        OneStage::ReloadBack { haul, i: _ } => held(haul),
+        OneStage::Read { haul, i: _ } => held(haul),
+        OneStage::ReloadRing { haul, i: _, job: _ } => held(haul),
+        OneStage::Exchange { haul, i: _, job: _ } => held(haul),
+    }
+}
+
 fn source_keeps(at: SourceStage) -> Kept
     ensures { λ r. ⌜ r ≡ sourceKeeps at ⌝ }
 {
@@ -83,14 +109,42 @@ fn source_keeps(at: SourceStage) -> Kept
         } => Kept::Nothing,
         SourceStage::LoadRing { wanted: _, b: _ } => Kept::Nothing,
         SourceStage::ReadFirst { haul } => held(haul),
-        SourceStage::Copy { haul, i: _ } => held(haul),
-        SourceStage::ReloadRing { haul } => held(haul),
-        SourceStage::ExchangeAll { haul } => held(haul),
-        SourceStage::ExchangeFirst { haul, job: _ } => held(haul),
-        SourceStage::ReloadBack { haul, i: _ } => held(haul),
-        SourceStage::Read { haul, i: _ } => held(haul),
-        SourceStage::ReloadRingOne { haul, i: _, job: _ } => held(haul),
-        SourceStage::ExchangeOne { haul, i: _, job: _ } => held(haul),
+        SourceStage::All(stage) => all_keeps(stage),
+        SourceStage::One(stage) => one_keeps(stage),
+    }
+}
+
+fn reserve_keeps(at: ReserveStage) -> Kept
+    ensures { λ r. ⌜ r ≡ reserveKeeps at ⌝ }
+{
+    match at {
+        ReserveStage::LoadBack { wanted: _ } => Kept::Nothing,
+        ReserveStage::LoadFront { wanted: _, b: _ } => Kept::Nothing,
+        ReserveStage::Resize { wanted: _, at } => resize_keeps(at),
+    }
+}
+
+fn swap_keeps(at: SwapStage) -> Kept
+    ensures { λ r. ⌜ r ≡ swapKeeps at ⌝ }
+{
+    match at {
+        SwapStage::ReadNear { haul, x: _ } => held(haul),
+        SwapStage::ReadFar {
+            haul,
+            x: _,
+            near: _,
+        } => held(haul),
+        SwapStage::WriteNear {
+            haul,
+            x: _,
+            near: _,
+            far: _,
+        } => held(haul),
+        SwapStage::WriteFar {
+            haul,
+            x: _,
+            near: _,
+        } => held(haul),
     }
 }
 
@@ -98,29 +152,11 @@ fn own_keeps(at: OwnStage) -> Kept
     ensures { λ r. ⌜ r ≡ ownKeeps at ⌝ }
 {
     match at {
-        OwnStage::ReserveLoadBack { wanted: _ } => Kept::Nothing,
-        OwnStage::ReserveLoadFront { wanted: _, b: _ } => Kept::Nothing,
-        OwnStage::Resize { wanted: _, at } => resize_keeps(at),
+        OwnStage::Reserve(stage) => reserve_keeps(stage),
         OwnStage::LoadBack { wanted: _ } => Kept::Nothing,
         OwnStage::WriteCopy { haul, i: _, job: _ } => held(haul),
         OwnStage::WriteOne { haul, i: _, job: _ } => held(haul),
-        OwnStage::SwapReadNear { haul, x: _ } => held(haul),
-        OwnStage::SwapReadFar {
-            haul,
-            x: _,
-            near: _,
-        } => held(haul),
-        OwnStage::SwapWriteNear {
-            haul,
-            x: _,
-            near: _,
-            far: _,
-        } => held(haul),
-        OwnStage::SwapWriteFar {
-            haul,
-            x: _,
-            near: _,
-        } => held(haul),
+        OwnStage::Swap(stage) => swap_keeps(stage),
         OwnStage::StoreBack { haul } => held(haul),
     }
 }

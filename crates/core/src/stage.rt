@@ -97,7 +97,23 @@ pub struct Haul {
     pub in_hand: InHand,
 }
 
-// The steps of a batch on its source. others: the limit less one. i: jobs copied or taken so far.
+// Taking from a FIFO source all at once. i: jobs copied so far.
+pub enum AllStage {
+    Copy { haul: Haul, i: u64 },
+    ReloadRing { haul: Haul },
+    Exchange { haul: Haul },
+}
+
+// Taking from a LIFO source one by one. i: jobs written so far.
+pub enum OneStage {
+    ExchangeFirst { haul: Haul, job: u64 },
+    ReloadBack { haul: Haul, i: u64 },
+    Read { haul: Haul, i: u64 },
+    ReloadRing { haul: Haul, i: u64, job: u64 },
+    Exchange { haul: Haul, i: u64, job: u64 },
+}
+
+// The steps of a batch on its source. others: the limit less one.
 pub enum SourceStage {
     LoadFront {
         kind: BatchKind,
@@ -115,91 +131,48 @@ pub enum SourceStage {
     ReadFirst {
         haul: Haul,
     },
-    // from a FIFO source, all at once
-    Copy {
-        haul: Haul,
-        i: u64,
-    },
-    ReloadRing {
-        haul: Haul,
-    },
-    ExchangeAll {
-        haul: Haul,
-    },
-    // from a LIFO source, one by one
-    ExchangeFirst {
-        haul: Haul,
-        job: u64,
-    },
-    ReloadBack {
-        haul: Haul,
-        i: u64,
-    },
-    Read {
-        haul: Haul,
-        i: u64,
-    },
-    ReloadRingOne {
-        haul: Haul,
-        i: u64,
-        job: u64,
-    },
-    ExchangeOne {
-        haul: Haul,
-        i: u64,
-        job: u64,
-    },
+    All(AllStage),
+    One(OneStage),
 }
 
-// The steps of a batch on the thread's own queue. x: swaps made so far.
-pub enum OwnStage {
-    ReserveLoadBack {
-        wanted: Wanted,
-    },
-    ReserveLoadFront {
-        wanted: Wanted,
-        b: Index,
-    },
-    Resize {
-        wanted: Wanted,
-        at: ResizeStage,
-    },
-    LoadBack {
-        wanted: Wanted,
-    },
-    WriteCopy {
-        haul: Haul,
-        i: u64,
-        job: u64,
-    },
-    WriteOne {
-        haul: Haul,
-        i: u64,
-        job: u64,
-    },
-    SwapReadNear {
+pub enum ReserveStage {
+    LoadBack { wanted: Wanted },
+    LoadFront { wanted: Wanted, b: Index },
+    Resize { wanted: Wanted, at: ResizeStage },
+}
+
+// The reversal, by swaps from the outside in. x: swaps made so far.
+pub enum SwapStage {
+    ReadNear {
         haul: Haul,
         x: u64,
     },
-    SwapReadFar {
+    ReadFar {
         haul: Haul,
         x: u64,
         near: u64,
     },
-    SwapWriteNear {
+    WriteNear {
         haul: Haul,
         x: u64,
         near: u64,
         far: u64,
     },
-    SwapWriteFar {
+    WriteFar {
         haul: Haul,
         x: u64,
         near: u64,
     },
-    StoreBack {
-        haul: Haul,
-    },
+}
+
+// The steps of a batch on the thread's own queue.
+pub enum OwnStage {
+    Reserve(ReserveStage),
+    LoadBack { wanted: Wanted },
+    WriteCopy { haul: Haul, i: u64, job: u64 },
+    WriteOne { haul: Haul, i: u64, job: u64 },
+    Swap(SwapStage),
+    StoreBack { haul: Haul },
 }
 
 // Of a steal, a length and a batch the first number is the queue that it names.

@@ -1,9 +1,10 @@
 // What a stage tells of its next step.
 ghost use mathlib.Core.Path.{_≡_};
-ghost use Rattle.core.specs.Stages.{touchedOf, idleB, resizeClaims, pushClaims, popClaims, ownClaims, claimsB};
+ghost use Rattle.core.specs.Stages.{touchedOf, idleB, resizeClaims, pushClaims, popClaims, reserveClaims, ownClaims, claimsB};
 use crate::stage::OwnStage;
 use crate::stage::PopStage;
 use crate::stage::PushStage;
+use crate::stage::ReserveStage;
 use crate::stage::ResizeStage;
 use crate::stage::Stage;
 
@@ -75,13 +76,21 @@ fn pop_claims(at: PopStage) -> bool
     }
 }
 
+fn reserve_claims(at: ReserveStage) -> bool
+    ensures { λ r. ⌜ r ≡ reserveClaims at ⌝ }
+{
+    match at {
+        ReserveStage::LoadBack { wanted: _ } => false,
+        ReserveStage::LoadFront { wanted: _, b: _ } => false,
+        ReserveStage::Resize { wanted: _, at } => resize_claims(at),
+    }
+}
+
 fn own_claims(at: OwnStage) -> bool
     ensures { λ r. ⌜ r ≡ ownClaims at ⌝ }
 {
     match at {
-        OwnStage::ReserveLoadBack { wanted: _ } => false,
-        OwnStage::ReserveLoadFront { wanted: _, b: _ } => false,
-        OwnStage::Resize { wanted: _, at } => resize_claims(at),
+        OwnStage::Reserve(stage) => reserve_claims(stage),
         OwnStage::LoadBack { wanted: _ } => false,
         OwnStage::WriteCopy {
             haul: _,
@@ -93,23 +102,7 @@ fn own_claims(at: OwnStage) -> bool
             i: _,
             job: _,
         } => false,
-        OwnStage::SwapReadNear { haul: _, x: _ } => false,
-        OwnStage::SwapReadFar {
-            haul: _,
-            x: _,
-            near: _,
-        } => false,
-        OwnStage::SwapWriteNear {
-            haul: _,
-            x: _,
-            near: _,
-            far: _,
-        } => false,
-        OwnStage::SwapWriteFar {
-            haul: _,
-            x: _,
-            near: _,
-        } => false,
+        OwnStage::Swap(_) => false,
         OwnStage::StoreBack { haul: _ } => false,
     }
 }

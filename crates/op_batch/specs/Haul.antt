@@ -16,6 +16,14 @@ use Rattle.core.specs.declared.stage.InHand.{InHand}
 use Rattle.core.specs.declared.stage.InHand.the-variants.{Nothing, Job}
 use Rattle.core.specs.declared.stage.Wanted.{Wanted}
 use Rattle.core.specs.declared.stage.Haul.{Haul}
+use Rattle.core.specs.declared.stage.AllStage.{AllStage}
+use Rattle.core.specs.declared.stage.AllStage.the-variants as A
+use Rattle.core.specs.declared.stage.OneStage.{OneStage}
+use Rattle.core.specs.declared.stage.OneStage.the-variants as E
+use Rattle.core.specs.declared.stage.ReserveStage.{ReserveStage}
+use Rattle.core.specs.declared.stage.ReserveStage.the-variants as Y
+use Rattle.core.specs.declared.stage.SwapStage.{SwapStage}
+use Rattle.core.specs.declared.stage.SwapStage.the-variants as X
 use Rattle.core.specs.declared.stage.SourceStage.the-variants as S
 use Rattle.core.specs.declared.stage.OwnStage.the-variants as O
 use Rattle.core.specs.declared.stage.Stage.{Stage}
@@ -25,6 +33,19 @@ use Rattle.core.specs.declared.answer.Answer.the-variants.{Stolen, Moved}
 use Rattle.core.specs.declared.out.Out.{Out}
 use Rattle.core.specs.Out.{going, ended}
 
+-- the stages of the parts of a batch whose source is k
+abbrev pub allAt : ℕ → AllStage → Stage
+allAt k at = BatchSource k (S.All at)
+
+abbrev pub oneAt : ℕ → OneStage → Stage
+oneAt k at = BatchSource k (S.One at)
+
+abbrev pub reserveAt : ℕ → ReserveStage → Stage
+reserveAt k at = BatchOwn k (O.Reserve at)
+
+abbrev pub swapAt : ℕ → SwapStage → Stage
+swapAt k at = BatchOwn k (O.Swap at)
+
 -- n, of a difference d and a limit, which is others + 1: n = min((d + 1) / 2, limit); of a batch and pop min((d - 1) / 2, limit - 1)
 abbrev pub wantedOf : BatchKind → ℕ → ℕ → ℕ
 wantedOf Batch d others = min ((d + 1) / 2) (others + 1)
@@ -32,7 +53,7 @@ wantedOf BatchAndPop d others = min ((d - 1) / 2) others
 
 -- reserve n in the own queue, if n > 0
 abbrev pub reserving : ℕ → Wanted → Stage
-reserving k w = pick (eqb (w .n) 0) (BatchOwn k (O.LoadBack w)) (BatchOwn k (O.ReserveLoadBack w))
+reserving k w = pick (eqb (w .n) 0) (BatchOwn k (O.LoadBack w)) (reserveAt k (Y.LoadBack w))
 
 abbrev pub hauling : Ring → Wanted → Index → Haul
 hauling ring w b = record { ring = ring; f = w .f; n = w .n; b = b; «in_hand» = Nothing }
@@ -56,7 +77,7 @@ firstOf (Job job) f = plusOf f 1
 
 -- i copied: the next, or load ring
 abbrev pub copying : ℕ → Haul → ℕ → Stage
-copying k h i = pick (leb (h .n) i) (BatchSource k (S.ReloadRing h)) (BatchSource k (S.Copy h i))
+copying k h i = pick (leb (h .n) i) (allAt k (A.ReloadRing h)) (allAt k (A.Copy h i))
 
 -- the i-th of n from the other end
 abbrev pub mirrorOf : ℕ → ℕ → ℕ
@@ -71,7 +92,7 @@ slotOf Lifo h i = plusOf (h .b) (mirrorOf (h .n) i)
 
 -- swaps from the outside in, x made: the next, or store own back
 abbrev pub swapping : ℕ → Haul → ℕ → Stage
-swapping k h x = pick (leb (h .n / 2) x) (BatchOwn k (O.StoreBack h)) (BatchOwn k (O.SwapReadNear h x))
+swapping k h x = pick (leb (h .n / 2) x) (BatchOwn k (O.StoreBack h)) (swapAt k (X.ReadNear h x))
 
 -- into FIFO: reverse what was written
 abbrev pub landing : Flavor → ℕ → Haul → Stage
@@ -89,7 +110,7 @@ stopped own k h i q =
 
 -- i written: load back for the next, or stop after n
 abbrev pub turning : Flavor → ℕ → Haul → ℕ → Queue → Out
-turning own k h i q = pick (leb (h .n) i) (stopped own k h (h .n) q) (going q (BatchSource k (S.ReloadBack h i)))
+turning own k h i q = pick (leb (h .n) i) (stopped own k h (h .n) q) (going q (oneAt k (E.ReloadBack h i)))
 
 -- the exchange for a job was won: what to write (of a batch and pop the PREVIOUS job), and what is then in hand
 abbrev pub toWrite : InHand → ℕ → ℕ

@@ -2,20 +2,49 @@
 ghost use mathlib.Core.Path.{_≡_};
 ghost use Prim.Native.Nat.{_+_, min};
 ghost use lib.Dec.{leb};
-ghost use Rattle.op_batch.specs.Haul.{wantedOf, reserving as reservingOf, withJob, onward as onwardOf, withCount, firstOf, copying as copyingOf, mirrorOf, slotOf, swapping as swappingOf, landing as landingOf, isNothing, stopped as stoppedOf, turning as turningOf, toWrite, nextInHand, answerOf};
+ghost use Rattle.op_batch.specs.Haul.{allAt, oneAt, reserveAt, swapAt, wantedOf, reserving as reservingOf, withJob, onward as onwardOf, withCount, firstOf, copying as copyingOf, mirrorOf, slotOf, swapping as swappingOf, landing as landingOf, isNothing, stopped as stoppedOf, turning as turningOf, toWrite, nextInHand, answerOf};
 use core::answer::Answer;
 use core::out::Out;
 use core::queue::Flavor;
 use core::queue::Queue;
+use core::stage::AllStage;
 use core::stage::BatchKind;
 use core::stage::Haul;
 use core::stage::InHand;
+use core::stage::OneStage;
 use core::stage::OwnStage;
+use core::stage::ReserveStage;
 use core::stage::SourceStage;
 use core::stage::Stage;
+use core::stage::SwapStage;
 use core::stage::Wanted;
 use index::Index;
 use steal::Steal;
+
+// The stages of the parts of a batch.
+pub fn all_at(source: usize, at: AllStage) -> Stage
+    ensures { λ r. ⌜ r ≡ allAt source at ⌝ }
+{
+    Stage::BatchSource(source, SourceStage::All(at))
+}
+
+pub fn one_at(source: usize, at: OneStage) -> Stage
+    ensures { λ r. ⌜ r ≡ oneAt source at ⌝ }
+{
+    Stage::BatchSource(source, SourceStage::One(at))
+}
+
+pub fn reserve_at(source: usize, at: ReserveStage) -> Stage
+    ensures { λ r. ⌜ r ≡ reserveAt source at ⌝ }
+{
+    Stage::BatchOwn(source, OwnStage::Reserve(at))
+}
+
+pub fn swap_at(source: usize, at: SwapStage) -> Stage
+    ensures { λ r. ⌜ r ≡ swapAt source at ⌝ }
+{
+    Stage::BatchOwn(source, OwnStage::Swap(at))
+}
 
 fn smaller(a: u64, b: u64) -> u64
     ensures { λ r. ⌜ r ≡ min a b ⌝ }
@@ -48,7 +77,7 @@ pub fn reserving(source: usize, wanted: Wanted) -> Stage
     if wanted.n == 0 {
         return Stage::BatchOwn(source, OwnStage::LoadBack { wanted });
     }
-    Stage::BatchOwn(source, OwnStage::ReserveLoadBack { wanted })
+    reserve_at(source, ReserveStage::LoadBack { wanted })
 }
 
 pub fn with_job(haul: Haul, job: u64) -> Haul
@@ -90,7 +119,7 @@ fn with_count(haul: Haul, n: u64) -> Haul
 }
 
 // Whether n is reached once one more than i is done.
-pub fn reached(i: u64, n: u64) -> bool
+fn reached(i: u64, n: u64) -> bool
     ensures { λ r. ⌜ r ≡ leb n (i + 1) ⌝ }
 {
     if n <= i {
@@ -114,9 +143,19 @@ pub fn copying(source: usize, haul: Haul, i: u64) -> Stage
     ensures { λ r. ⌜ r ≡ copyingOf source haul i ⌝ }
 {
     if haul.n <= i {
-        return Stage::BatchSource(source, SourceStage::ReloadRing { haul });
+        return all_at(source, AllStage::ReloadRing { haul });
     }
-    Stage::BatchSource(source, SourceStage::Copy { haul, i })
+    all_at(source, AllStage::Copy { haul, i })
+}
+
+// One more than so many are copied.
+pub fn copied(source: usize, haul: Haul, i: u64) -> Stage
+    ensures { λ r. ⌜ r ≡ copyingOf source haul (i + 1) ⌝ }
+{
+    if reached(i, haul.n) {
+        return all_at(source, AllStage::ReloadRing { haul });
+    }
+    all_at(source, AllStage::Copy { haul, i: i + 1 })
 }
 
 // The i-th of n from the other end.
@@ -137,13 +176,23 @@ pub fn slot(own: Flavor, haul: Haul, i: u64) -> Index
 }
 
 // So many swaps are made: the next, or store the own back.
-pub fn swapping(source: usize, haul: Haul, x: u64) -> Stage
+fn swapping(source: usize, haul: Haul, x: u64) -> Stage
     ensures { λ r. ⌜ r ≡ swappingOf source haul x ⌝ }
 {
     if haul.n / 2 <= x {
         return Stage::BatchOwn(source, OwnStage::StoreBack { haul });
     }
-    Stage::BatchOwn(source, OwnStage::SwapReadNear { haul, x })
+    swap_at(source, SwapStage::ReadNear { haul, x })
+}
+
+// One more than so many swaps are made.
+pub fn swapped(source: usize, haul: Haul, x: u64) -> Stage
+    ensures { λ r. ⌜ r ≡ swappingOf source haul (x + 1) ⌝ }
+{
+    if reached(x, haul.n / 2) {
+        return Stage::BatchOwn(source, OwnStage::StoreBack { haul });
+    }
+    swap_at(source, SwapStage::ReadNear { haul, x: x + 1 })
 }
 
 // All is written: into a FIFO queue it is reversed.
@@ -183,10 +232,17 @@ pub fn turning(own: Flavor, source: usize, haul: Haul, i: u64, q: Queue) -> Out
     if haul.n <= i {
         return stopped(own, source, haul, haul.n, q);
     }
-    Out::going(
-        q,
-        Stage::BatchSource(source, SourceStage::ReloadBack { haul, i }),
-    )
+    Out::going(q, one_at(source, OneStage::ReloadBack { haul, i }))
+}
+
+// One more than so many are written.
+pub fn turned(own: Flavor, source: usize, haul: Haul, i: u64, q: Queue) -> Out
+    ensures { λ r. ⌜ r ≡ turningOf own source haul (i + 1) q ⌝ }
+{
+    if reached(i, haul.n) {
+        return stopped(own, source, haul, haul.n, q);
+    }
+    Out::going(q, one_at(source, OneStage::ReloadBack { haul, i: i + 1 }))
 }
 
 // The exchange for a job was won: what to write, of a batch and pop the previous job.

@@ -1,1 +1,3 @@
+pub mod Reserve
+pub mod Swap
 pub mod Own

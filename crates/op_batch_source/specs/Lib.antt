@@ -1,1 +1,3 @@
+pub mod All
+pub mod One
 pub mod Source

@@ -2,6 +2,8 @@
 ghost use mathlib.Core.Path.{_≡_};
 ghost use Rattle.op_batch.specs.Haul.{hauling as haulingOf};
 ghost use Rattle.op_batch_source.specs.Source.{taking as takingOf, held as heldOf, firstRead, sourceOf};
+use crate::all::all_step;
+use crate::one::one_step;
 use cells::read;
 use core::answer::Answer;
 use core::out::Out;
@@ -10,23 +12,22 @@ use core::queue::Queue;
 use core::stage::BatchKind;
 use core::stage::Haul;
 use core::stage::InHand;
-use core::stage::OwnStage;
+use core::stage::OneStage;
 use core::stage::SourceStage;
 use core::stage::Stage;
 use core::stage::Wanted;
 use index::Index;
 use op_batch::copying;
-use op_batch::first;
-use op_batch::next_in_hand;
-use op_batch::onward;
+use op_batch::one_at;
 use op_batch::reserving;
 use op_batch::stopped;
-use op_batch::to_write;
-use op_batch::turning;
 use op_batch::wanted;
 use op_batch::with_job;
 use ring::Ring;
 use steal::Steal;
+
+pub mod all;
+pub mod one;
 
 // From here on the ring is held.
 fn hauling(ring: Ring, wanted: Wanted, b: Index) -> Haul
@@ -52,10 +53,7 @@ fn taking(flavor: Flavor, own: Flavor, source: usize, haul: Haul, q: Queue) -> O
             if haul.n <= 0 {
                 return stopped(own, source, haul, 0, q);
             }
-            Out::going(
-                q,
-                Stage::BatchSource(source, SourceStage::Read { haul, i: 0 }),
-            )
+            Out::going(q, one_at(source, OneStage::Read { haul, i: 0 }))
         }
     }
 }
@@ -81,7 +79,7 @@ fn first_read(flavor: Flavor, source: usize, haul: Haul, job: u64) -> Stage
 {
     match flavor {
         Flavor::Fifo => copying(source, with_job(haul, job), 0),
-        Flavor::Lifo => Stage::BatchSource(source, SourceStage::ExchangeFirst { haul, job }),
+        Flavor::Lifo => one_at(source, OneStage::ExchangeFirst { haul, job }),
     }
 }
 
@@ -113,82 +111,7 @@ pub fn source_step(own: Flavor, source: usize, at: SourceStage, q: Queue, pool: 
             let flavor = q.flavor;
             Out::going(q, first_read(flavor, source, haul, job))
         }
-        SourceStage::Copy { haul, i } => {
-            let in_hand = haul.in_hand;
-            let job = read(pool, haul.ring, first(in_hand, haul.f).plus(i));
-            Out::going(
-                q,
-                Stage::BatchOwn(source, OwnStage::WriteCopy { haul, i, job }),
-            )
-        }
-        SourceStage::ReloadRing { haul } => {
-            if q.ring.number.0 == haul.ring.number.0 {
-                return Out::going(
-                    q,
-                    Stage::BatchSource(source, SourceStage::ExchangeAll { haul }),
-                );
-            }
-            Out::ended(q, Answer::Stolen(Steal::Retry))
-        }
-        SourceStage::ExchangeAll { haul } => {
-            if q.front.is_same(haul.f) {
-                let in_hand = haul.in_hand;
-                let mut r = q;
-                r.front = first(in_hand, haul.f).plus(haul.n);
-                return Out::going(r, Stage::BatchOwn(source, OwnStage::StoreBack { haul }));
-            }
-            Out::ended(q, Answer::Stolen(Steal::Retry))
-        }
-        SourceStage::ExchangeFirst { haul, job } => {
-            if q.front.is_same(haul.f) {
-                let mut r = q;
-                r.front = haul.f.plus(1);
-                return turning(own, source, onward(haul, InHand::Job(job)), 0, r);
-            }
-            Out::ended(q, Answer::Stolen(Steal::Retry))
-        }
-        SourceStage::ReloadBack { haul, i } => {
-            if q.back.is_empty(haul.f) {
-                return stopped(own, source, haul, i, q);
-            }
-            Out::going(q, Stage::BatchSource(source, SourceStage::Read { haul, i }))
-        }
-        SourceStage::Read { haul, i } => {
-            let job = read(pool, haul.ring, haul.f);
-            Out::going(
-                q,
-                Stage::BatchSource(source, SourceStage::ReloadRingOne { haul, i, job }),
-            )
-        }
-        SourceStage::ReloadRingOne { haul, i, job } => {
-            if q.ring.number.0 == haul.ring.number.0 {
-                return Out::going(
-                    q,
-                    Stage::BatchSource(source, SourceStage::ExchangeOne { haul, i, job }),
-                );
-            }
-            stopped(own, source, haul, i, q)
-        }
-        SourceStage::ExchangeOne { haul, i, job } => {
-            if q.front.is_same(haul.f) {
-                let in_hand = haul.in_hand;
-                let mut r = q;
-                r.front = haul.f.plus(1);
-                let next = onward(haul, next_in_hand(in_hand, job));
-                let write = to_write(in_hand, job);
-                return Out::going(
-                    r,
-                    Stage::BatchOwn(
-                        source,
-                        OwnStage::WriteOne {
-                            haul: next,
-                            i,
-                            job: write,
-                        },
-                    ),
-                );
-            }
-            stopped(own, source, haul, i, q)
-        }
+        SourceStage::All(stage) => all_step(source, stage, q, pool),
+        SourceStage::One(stage) => one_step(own, source, stage, q, pool),
     }
 }

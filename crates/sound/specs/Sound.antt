@@ -17,6 +17,14 @@ use Rattle.core.specs.declared.stage.PopStage.{PopStage}
 use Rattle.core.specs.declared.stage.PopStage.the-variants as P
 use Rattle.core.specs.declared.stage.Wanted.{Wanted}
 use Rattle.core.specs.declared.stage.Haul.{Haul}
+use Rattle.core.specs.declared.stage.AllStage.{AllStage}
+use Rattle.core.specs.declared.stage.AllStage.the-variants as A
+use Rattle.core.specs.declared.stage.OneStage.{OneStage}
+use Rattle.core.specs.declared.stage.OneStage.the-variants as E
+use Rattle.core.specs.declared.stage.ReserveStage.{ReserveStage}
+use Rattle.core.specs.declared.stage.ReserveStage.the-variants as Y
+use Rattle.core.specs.declared.stage.SwapStage.{SwapStage}
+use Rattle.core.specs.declared.stage.SwapStage.the-variants as X
 use Rattle.core.specs.declared.stage.SourceStage.{SourceStage}
 use Rattle.core.specs.declared.stage.SourceStage.the-variants as S
 use Rattle.core.specs.declared.stage.OwnStage.{OwnStage}
@@ -92,31 +100,43 @@ wantedSound w = leb (w .n) largest
 abbrev pub haulSound : Haul → ℕ → Bool
 haulSound h i = leb (h .n) largest && leb i (h .n)
 
+abbrev pub allSound : AllStage → Bool
+allSound (A.Copy h i) = haulSound h i
+allSound (A.ReloadRing h) = haulSound h 0
+allSound (A.Exchange h) = haulSound h 0
+
+abbrev pub oneSound : OneStage → Bool
+oneSound (E.ExchangeFirst h job) = haulSound h 0
+oneSound (E.ReloadBack h i) = haulSound h i
+oneSound (E.Read h i) = haulSound h i
+oneSound (E.ReloadRing h i job) = haulSound h i
+oneSound (E.Exchange h i job) = haulSound h i
+
 abbrev pub sourceSound : SourceStage → Bool
 sourceSound (S.LoadFront kind others) = true
 sourceSound (S.LoadBack kind others f) = true
 sourceSound (S.LoadRing w b) = wantedSound w
 sourceSound (S.ReadFirst h) = haulSound h 0
-sourceSound (S.Copy h i) = haulSound h i
-sourceSound (S.ReloadRing h) = haulSound h 0
-sourceSound (S.ExchangeAll h) = haulSound h 0
-sourceSound (S.ExchangeFirst h job) = haulSound h 0
-sourceSound (S.ReloadBack h i) = haulSound h i
-sourceSound (S.Read h i) = haulSound h i
-sourceSound (S.ReloadRingOne h i job) = haulSound h i
-sourceSound (S.ExchangeOne h i job) = haulSound h i
+sourceSound (S.All at) = allSound at
+sourceSound (S.One at) = oneSound at
+
+abbrev pub reserveSound : ReserveStage → Bool
+reserveSound (Y.LoadBack w) = true
+reserveSound (Y.LoadFront w b) = true
+reserveSound (Y.Resize w at) = resizeSound at
+
+abbrev pub swapSound : SwapStage → Bool
+swapSound (X.ReadNear h x) = haulSound h x
+swapSound (X.ReadFar h x near) = haulSound h x
+swapSound (X.WriteNear h x near far) = haulSound h x
+swapSound (X.WriteFar h x near) = haulSound h x
 
 abbrev pub ownSound : OwnStage → Bool
-ownSound (O.ReserveLoadBack w) = true
-ownSound (O.ReserveLoadFront w b) = true
-ownSound (O.Resize w at) = resizeSound at
+ownSound (O.Reserve at) = reserveSound at
 ownSound (O.LoadBack w) = wantedSound w
 ownSound (O.WriteCopy h i job) = haulSound h i
 ownSound (O.WriteOne h i job) = haulSound h i
-ownSound (O.SwapReadNear h x) = haulSound h x
-ownSound (O.SwapReadFar h x near) = haulSound h x
-ownSound (O.SwapWriteNear h x near far) = haulSound h x
-ownSound (O.SwapWriteFar h x near) = haulSound h x
+ownSound (O.Swap at) = swapSound at
 ownSound (O.StoreBack h) = haulSound h 0
 
 abbrev pub numbersSound : Stage → Bool

@@ -1,15 +1,19 @@
 // What soundness asks of what a thread remembers.
 ghost use mathlib.Core.Path.{_≡_};
-ghost use Rattle.sound.specs.Sound.{namedSound, resizeSound, pushSound, popSound, wantedSound, haulSound, sourceSound, ownSound, numbersSound, stageSound};
+ghost use Rattle.sound.specs.Sound.{namedSound, resizeSound, pushSound, popSound, wantedSound, haulSound, allSound, oneSound, sourceSound, reserveSound, swapSound, ownSound, numbersSound, stageSound};
 use crate::kept::kept_sound;
 use core::kept::ring_kept;
+use core::stage::AllStage;
 use core::stage::Haul;
+use core::stage::OneStage;
 use core::stage::OwnStage;
 use core::stage::PopStage;
 use core::stage::PushStage;
+use core::stage::ReserveStage;
 use core::stage::ResizeStage;
 use core::stage::SourceStage;
 use core::stage::Stage;
+use core::stage::SwapStage;
 use core::stage::Wanted;
 use ring::Ring;
 
@@ -78,6 +82,28 @@ fn haul_sound(haul: Haul, counter: u64) -> bool
     (haul.n <= Ring::LARGEST as u64) & (counter <= haul.n)
 }
 
+fn all_sound(at: AllStage) -> bool
+    ensures { λ r. ⌜ r ≡ allSound at ⌝ }
+{
+    match at {
+        AllStage::Copy { haul, i } => haul_sound(haul, i),
+        AllStage::ReloadRing { haul } => haul_sound(haul, 0),
+        AllStage::Exchange { haul } => haul_sound(haul, 0),
+    }
+}
+
+fn one_sound(at: OneStage) -> bool
+    ensures { λ r. ⌜ r ≡ oneSound at ⌝ }
+{
+    match at {
+        OneStage::ExchangeFirst { haul, job: _ } => haul_sound(haul, 0),
+        OneStage::ReloadBack { haul, i } => haul_sound(haul, i),
+        OneStage::Read { haul, i } => haul_sound(haul, i),
+        OneStage::ReloadRing { haul, i, job: _ } => haul_sound(haul, i),
+        OneStage::Exchange { haul, i, job: _ } => haul_sound(haul, i),
+    }
+}
+
 fn source_sound(at: SourceStage) -> bool
     ensures { λ r. ⌜ r ≡ sourceSound at ⌝ }
 {
@@ -90,14 +116,34 @@ fn source_sound(at: SourceStage) -> bool
         } => true,
         SourceStage::LoadRing { wanted, b: _ } => wanted_sound(wanted),
         SourceStage::ReadFirst { haul } => haul_sound(haul, 0),
-        SourceStage::Copy { haul, i } => haul_sound(haul, i),
-        SourceStage::ReloadRing { haul } => haul_sound(haul, 0),
-        SourceStage::ExchangeAll { haul } => haul_sound(haul, 0),
-        SourceStage::ExchangeFirst { haul, job: _ } => haul_sound(haul, 0),
-        SourceStage::ReloadBack { haul, i } => haul_sound(haul, i),
-        SourceStage::Read { haul, i } => haul_sound(haul, i),
-        SourceStage::ReloadRingOne { haul, i, job: _ } => haul_sound(haul, i),
-        SourceStage::ExchangeOne { haul, i, job: _ } => haul_sound(haul, i),
+        SourceStage::All(stage) => all_sound(stage),
+        SourceStage::One(stage) => one_sound(stage),
+    }
+}
+
+fn reserve_sound(at: ReserveStage) -> bool
+    ensures { λ r. ⌜ r ≡ reserveSound at ⌝ }
+{
+    match at {
+        ReserveStage::LoadBack { wanted: _ } => true,
+        ReserveStage::LoadFront { wanted: _, b: _ } => true,
+        ReserveStage::Resize { wanted: _, at } => resize_sound(at),
+    }
+}
+
+fn swap_sound(at: SwapStage) -> bool
+    ensures { λ r. ⌜ r ≡ swapSound at ⌝ }
+{
+    match at {
+        SwapStage::ReadNear { haul, x } => haul_sound(haul, x),
+        SwapStage::ReadFar { haul, x, near: _ } => haul_sound(haul, x),
+        SwapStage::WriteNear {
+            haul,
+            x,
+            near: _,
+            far: _,
+        } => haul_sound(haul, x),
+        SwapStage::WriteFar { haul, x, near: _ } => haul_sound(haul, x),
     }
 }
 
@@ -105,21 +151,11 @@ fn own_sound(at: OwnStage) -> bool
     ensures { λ r. ⌜ r ≡ ownSound at ⌝ }
 {
     match at {
-        OwnStage::ReserveLoadBack { wanted: _ } => true,
-        OwnStage::ReserveLoadFront { wanted: _, b: _ } => true,
-        OwnStage::Resize { wanted: _, at } => resize_sound(at),
+        OwnStage::Reserve(stage) => reserve_sound(stage),
         OwnStage::LoadBack { wanted } => wanted_sound(wanted),
         OwnStage::WriteCopy { haul, i, job: _ } => haul_sound(haul, i),
         OwnStage::WriteOne { haul, i, job: _ } => haul_sound(haul, i),
-        OwnStage::SwapReadNear { haul, x } => haul_sound(haul, x),
-        OwnStage::SwapReadFar { haul, x, near: _ } => haul_sound(haul, x),
-        OwnStage::SwapWriteNear {
-            haul,
-            x,
-            near: _,
-            far: _,
-        } => haul_sound(haul, x),
-        OwnStage::SwapWriteFar { haul, x, near: _ } => haul_sound(haul, x),
+        OwnStage::Swap(stage) => swap_sound(stage),
         OwnStage::StoreBack { haul } => haul_sound(haul, 0),
     }
 }

@@ -1,4 +1,4 @@
--- The two flavours are those of the definition, and the test on n is its test.
+-- Each arm of `taking` is its clause of `takingOf`, each test the definition's own, by what its calls ensure.
 use borrow.Author.Tests.{le-leb, lt-leb}
 use borrow.Author.Needs.{needs}
 use Rattle.op_batch_source.proofs.taking.Statement.{statement}
@@ -22,6 +22,9 @@ stopped-requires c κs = search needs
 returns : tie.Need-returns
 returns c = rw (c .before .before .before .enum-told2 .given .1, c .stopped .ensures, le-leb _ _ (c .before .if1 .taken))
 
+one-at-requires : tie.Need-one-at-requires
+one-at-requires c κs = search needs
+
 going-requires-2 : tie.Need-going-requires-2
 going-requires-2 c κs = search needs
 
@@ -29,7 +32,7 @@ returns-2 : tie.Need-returns-2
 returns-2 c = rw (c .before .before .enum-told .given .1, c .going .ensures, c .before .copying .ensures)
 
 returns-3 : tie.Need-returns-3
-returns-3 c = rw (c .before .before .before .enum-told2 .given .1, c .going2 .ensures, lt-leb _ _ (c .before .if1 .left))
+returns-3 c = rw (c .before .before .before .before .enum-told2 .given .1, c .going2 .ensures, c .before .one-at .ensures, lt-leb _ _ (c .before .before .if1 .left))
 
 pub taking-spec : {M : Type 1} → statement M
 taking-spec =
@@ -41,6 +44,7 @@ taking-spec =
     enum-told-2
     stopped-requires
     returns
+    one-at-requires
     going-requires-2
     returns-2
     returns-3)

@@ -40,7 +40,7 @@ returns-4 : tie.Need-returns-4
 returns-4 c = rw (c .before .stage .given .1)
 
 returns-5 : tie.Need-returns-5
-returns-5 c = search needs
+returns-5 c = rw (c .before .stage2 .given .1)
 
 returns-6 : tie.Need-returns-6
 returns-6 c = search needs

@@ -1,7 +1,7 @@
--- `plus` and `mirror` are their definitions.
+-- `far_cell` is `farOf`, by what its calls ensure.
 use borrow.Author.Needs.{needs}
-use Rattle.op_batch_own.proofs.far_cell.Statement.{statement}
-use Rattle.op_batch_own.proofs.far_cell.Tie as tie
+use Rattle.op_batch_own.proofs.swap.far_cell.Statement.{statement}
+use Rattle.op_batch_own.proofs.swap.far_cell.Tie as tie
 
 mirror-requires : tie.Need-mirror-requires
 mirror-requires c κs = search needs

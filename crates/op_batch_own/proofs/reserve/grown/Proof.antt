@@ -1,10 +1,13 @@
--- The three cases of a resize's step are those of the definition.
+-- Each arm of `grown` is its clause of `grownOf`, by what its calls ensure.
 use borrow.Author.Needs.{needs}
-use Rattle.op_batch_own.proofs.grown.Statement.{statement}
-use Rattle.op_batch_own.proofs.grown.Tie as tie
+use Rattle.op_batch_own.proofs.reserve.grown.Statement.{statement}
+use Rattle.op_batch_own.proofs.reserve.grown.Tie as tie
 
 enum-known-resized : tie.Need-enum-known-resized
 enum-known-resized c = search needs
+
+reserve-at-requires : tie.Need-reserve-at-requires
+reserve-at-requires c κs = search needs
 
 going-requires : tie.Need-going-requires
 going-requires c κs = search needs
@@ -22,7 +25,7 @@ going-requires-2 : tie.Need-going-requires-2
 going-requires-2 c κs = search needs
 
 returns : tie.Need-returns
-returns c = rw (c .before .before .resized .given .1, c .going .ensures)
+returns c = rw (c .before .before .before .resized .given .1, c .going .ensures, c .before .reserve-at .ensures)
 
 returns-2 : tie.Need-returns-2
 returns-2 c = rw (c .before .enum-told .given .1, c .ended .ensures)
@@ -35,6 +38,7 @@ grown-spec =
     tie.close
     (tie.spec
     enum-known-resized
+    reserve-at-requires
     going-requires
     enum-told
     ended-requires

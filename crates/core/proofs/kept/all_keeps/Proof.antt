@@ -1,0 +1,45 @@
+-- Each arm of `all_keeps` is its clause of `allKeeps`, by what its calls ensure.
+use borrow.Author.Needs.{needs}
+use Rattle.core.proofs.kept.all_keeps.Statement.{statement}
+use Rattle.core.proofs.kept.all_keeps.Tie as tie
+
+enum-known-at : tie.Need-enum-known-at
+enum-known-at c = search needs
+
+held-requires : tie.Need-held-requires
+held-requires c κs = search needs
+
+enum-known-at-2 : tie.Need-enum-known-at-2
+enum-known-at-2 c = search needs
+
+held-requires-2 : tie.Need-held-requires-2
+held-requires-2 c κs = search needs
+
+enum-known-at-3 : tie.Need-enum-known-at-3
+enum-known-at-3 c = search needs
+
+held-requires-3 : tie.Need-held-requires-3
+held-requires-3 c κs = search needs
+
+returns : tie.Need-returns
+returns c = rw (c .before .before .at .given .1, c .held .ensures)
+
+returns-2 : tie.Need-returns-2
+returns-2 c = rw (c .before .before .at2 .given .1, c .held2 .ensures)
+
+returns-3 : tie.Need-returns-3
+returns-3 c = rw (c .before .before .at3 .given .1, c .held3 .ensures)
+
+pub all-keeps-spec : {M : Type 1} → statement M
+all-keeps-spec =
+    tie.close
+    (tie.spec
+    enum-known-at
+    held-requires
+    enum-known-at-2
+    held-requires-2
+    enum-known-at-3
+    held-requires-3
+    returns
+    returns-2
+    returns-3)

@@ -1,0 +1,29 @@
+-- FIFO source: for each of n, read source cell, write own cell. Load ring (changed: Retry). Compare-exchange f to f + n (lost: Retry).
+-- Batch and pop: as batch from f + 1, compare-exchange to f + n + 1.
+use Prim.Native.Nat.{ℕ}
+use mathlib.Core.List.{List}
+use lib.Dec.{eqb}
+use Rattle.base.specs.Tests.{pick}
+use Rattle.index.specs.Index.{sameB, plusOf}
+use Rattle.cells.specs.Cells.{readOf}
+use Rattle.steal.specs.declared.Steal.the-variants.{Retry}
+use Rattle.core.specs.declared.queue.Queue.{Queue}
+use Rattle.core.specs.declared.stage.AllStage.{AllStage}
+use Rattle.core.specs.declared.stage.AllStage.the-variants.{Copy, ReloadRing, Exchange}
+use Rattle.core.specs.declared.stage.OwnStage.the-variants.{WriteCopy, StoreBack}
+use Rattle.core.specs.declared.stage.Stage.the-variants.{BatchOwn}
+use Rattle.core.specs.declared.answer.Answer.the-variants.{Stolen}
+use Rattle.core.specs.declared.out.Out.{Out}
+use Rattle.core.specs.Out.{going, ended, withFront}
+use Rattle.op_batch.specs.Haul.{allAt, firstOf}
+
+-- k is the source
+abbrev pub allStepOf : ℕ → AllStage → Queue → List ℕ → Out
+allStepOf k (Copy h i) q cells =
+    going q (BatchOwn k (WriteCopy h i (readOf cells (h .ring) (plusOf (firstOf (h .«in_hand») (h .f)) i))))
+allStepOf k (ReloadRing h) q cells =
+    pick (eqb (q .ring .number .0) (h .ring .number .0)) (going q (allAt k (Exchange h))) (ended q (Stolen Retry))
+allStepOf k (Exchange h) q cells =
+    pick (sameB (q .front) (h .f))
+    (going (withFront q (plusOf (firstOf (h .«in_hand») (h .f)) (h .n))) (BatchOwn k (StoreBack h)))
+    (ended q (Stolen Retry))
