@@ -3,18 +3,17 @@ use mathlib.Core.Path.{_≡_, refl, sym, ap, _∙_}
 use mathlib.Core.Bool.{Bool, true, false, not}
 use mathlib.Core.List.{List}
 use mathlib.Core.Logic.{_≢_}
-use Prim.Native.Nat.{ℕ, zero, suc, _+_, _-_, _*_, _/_, _≤_, _<_}
+use Prim.Native.Nat.{ℕ, zero, _+_, _-_, _*_, _/_, _≤_, _<_}
 use native.Mathlib.Omega.{arith}
-use native.Mathlib.Nat.{mod-lt, not-suc-le-zero}
 use lib.Dec.{ltb}
-use lib.IntN.{ℤ, pos, negsuc}
 use lib.ListN.{length, getD, set, take, drop, length-set, length-drop}
 use lib.Seq.{length-take-le, getD-take, getD-drop, getD-set-same, getD-set-other}
 use borrow.Author.Tests.{ltb-true, lt-ltb, not-true, not-false}
 use borrow.Rule.Slice.PartMut.{putMid, midOf, set-mid-at, mid-len}
 use Rattle.base.specs.Tests.{pick, by-test, both}
 use Rattle.index.specs.declared.Index.{Index}
-use Rattle.index.specs.Index.{modZ, cellOf}
+use Rattle.index.specs.Index.{cellOf}
+use Rattle.index.proofs.Laws.{cell-below}
 use Rattle.ring.specs.declared.Ring.{Ring}
 use Rattle.ring.specs.Capacity.{allowedB}
 use Rattle.ring.proofs.CapacityLaws.{Allowed, allowed-is, is-allowed}
@@ -61,15 +60,6 @@ pub opened-standing : (b : Bool) (cells : List ℕ) (r : Ring) → b ≡ standsB
 opened-standing b cells r e t = standing cells r (opened b cells r e t)
 
 -- ---- where a cell lies
-
-pub cell-below : (i : Index) (c : ℕ) → zero < c → cellOf i c < c
-unfolding cellOf
-cell-below i zero h = absurd (not-suc-le-zero h)
-cell-below i (suc c) h = go (i .0)
-  where
-    go : (z : ℤ) → modZ z (suc c) < suc c
-    go (pos n) = mod-lt n h
-    go (negsuc n) = omega arith
 
 -- a cell of a ring is one of its stretch
 pub cell-inside : (cells : List ℕ) (r : Ring) (i : Index) → Standing cells r → cellOf i (r .capacity) < r .capacity
