@@ -9,7 +9,7 @@ ghost use Rattle.index.specs.Index.{modZ, plusOf, minusOf, differenceOf,
 pub struct Index(pub i64);
 
 // The number itself where it is not below zero, and otherwise how far it lies below -1.
-fn mag(a: i64) -> u64
+pub fn mag(a: i64) -> u64
     ensures { λ r. ⌜ r ≡ magZ a ⌝ }
 {
     if a >= 0 { a as u64 } else { (-1 - a) as u64 }

@@ -32,7 +32,7 @@ pub struct Called {
 }
 
 // Thread t owns queue t.
-pub(crate) fn own_queue(thread: usize) -> usize
+pub fn own_queue(thread: usize) -> usize
     ensures { λ r. ⌜ r ≡ ownQueue thread ⌝ }
 {
     thread

@@ -1,0 +1,54 @@
+-- The lines that a session prints: a call's answer and, after a tab for each queue, front, back, ring, place and capacity.
+use Prim.Native.Nat.{ℕ}
+use mathlib.Core.List.{List, [], _++_}
+use lib.Dec.{ltb}
+use Rattle.base.specs.Tests.{pick}
+use Rattle.text.specs.Writing.{ascii, decimal, signed}
+use Rattle.steal.specs.declared.Steal.{Steal}
+use Rattle.steal.specs.declared.Steal.the-variants.{Empty, Success, Retry}
+use Rattle.ring.specs.declared.Ring.{Ring}
+use Rattle.core.specs.declared.queue.Queue.{Queue}
+use Rattle.core.specs.declared.answer.Answer.{Answer}
+use Rattle.core.specs.declared.answer.Answer.the-variants.{Working, Done, Job, Nothing, Stolen, Moved, Length, GaveUp, Refused}
+use Rattle.core.specs.Answers.{refusalOf, shortageOf}
+use Rattle.machine.specs.declared.state.Machine.{Machine}
+use Rattle.machine.specs.State.{queueAt}
+
+abbrev pub stolenText : Steal → List ℕ
+stolenText Empty = ascii "empty"
+stolenText (Success job) = ascii "took " ++ decimal job
+stolenText Retry = ascii "retry"
+
+abbrev pub answerText : Answer → List ℕ
+answerText Working = ascii "working"
+answerText Done = ascii "done"
+answerText (Job job) = ascii "job " ++ decimal job
+answerText Nothing = ascii "nothing"
+answerText (Stolen s) = stolenText s
+answerText Moved = ascii "moved"
+answerText (Length d n) = ascii "length " ++ (signed d ++ (ascii " " ++ decimal n))
+answerText (GaveUp s) = ascii "gave-up " ++ decimal (shortageOf s)
+answerText (Refused r) = ascii "refused " ++ decimal (refusalOf r)
+
+-- a number behind a space
+abbrev pub spaced : ℕ → List ℕ
+spaced n = ascii " " ++ decimal n
+
+abbrev pub ringText : Ring → List ℕ
+ringText r = spaced (r .number .0) ++ (spaced (r .place .0) ++ spaced (r .capacity))
+
+abbrev pub queueText : Queue → List ℕ
+queueText q = ascii "\t" ++ (signed (q .front .0) ++ (ascii " " ++ (signed (q .back .0) ++ ringText (q .ring))))
+
+abbrev pub queueTextIf : Machine → ℕ → List ℕ
+queueTextIf m k = pick (ltb k (m .«queue_count»)) (queueText (queueAt m k)) []
+
+abbrev pub callText : Machine → Answer → List ℕ
+callText m a =
+    answerText a ++ (queueTextIf m 0 ++ (queueTextIf m 1 ++ (queueTextIf m 2 ++ (queueTextIf m 3 ++ ascii "\n"))))
+
+abbrev pub setupText : Answer → List ℕ
+setupText a = ascii "setup " ++ (answerText a ++ ascii "\n")
+
+abbrev pub badText : ℕ → List ℕ
+badText n = (ascii "bad input at byte " ++ decimal n) ++ ascii "\n"

@@ -1,0 +1,112 @@
+-- A turn uses some of what is left of the part, and no more.
+use mathlib.Core.Path.{_≡_, refl, _∙_}
+use Prim.Native.Nat.{_-_, _≤_, _<_}
+use native.Mathlib.Omega.{arith}
+use borrow.Author.Needs.{needs}
+use lib.ListN.{length, take, drop}
+use Rattle.player.proofs.PlayerLaws.{listen-within, listen-some}
+use Rattle.play.proofs.CountLaws.{left}
+use Rattle.play.proofs.play_part.Statement.{statement}
+use Rattle.play.proofs.play_part.Tie as tie
+
+abbrev Inv-loop : tie.InvT-loop
+Inv-loop part pool₀ page₀ stand₀ from₀ pool page stand from = (from ≤ length part) × (length pool ≡ length pool₀) × (length page ≡ length page₀)
+
+abbrev μ-loop : tie.MeasureT-loop
+μ-loop part pool₀ page₀ stand₀ from₀ pool page stand from = length part - from
+
+loop-holds : tie.Need-loop-holds Inv-loop μ-loop
+loop-holds c = (omega arith, refl, refl)
+
+sub-listen : tie.Need-sub-listen Inv-loop μ-loop
+sub-listen c = omega arith
+
+part-listen-start : tie.Need-part-listen-start Inv-loop μ-loop
+part-listen-start c = omega arith
+
+part-listen-end : tie.Need-part-listen-end Inv-loop μ-loop
+part-listen-end c = omega arith
+
+listen-requires : tie.Need-listen-requires Inv-loop μ-loop
+listen-requires c κs = search needs
+
+add-from : tie.Need-add-from Inv-loop μ-loop
+add-from c = 
+    let l = c .before .before .before .before .before in
+    let n = c .before .listen in
+    let part = l .before .before .before .before .args .part .now in
+    let rest = take (length part - l .loop .from) (drop (l .loop .from) part) in
+    let e : length rest ≡ length part - l .loop .from = left (l .loop .from) part in
+    let w : n .result .used ≤ length rest = rw (n .ensures) (listen-within _ rest) in
+    record { fits = omega arith }
+
+act-requires : tie.Need-act-requires Inv-loop μ-loop
+act-requires c κs = search needs
+
+same-length : tie.Need-same-length Inv-loop μ-loop
+same-length c = let a = c .before .before .before .before .before in a .act .kept .1 .1 .0 ∙ a .before .before .before .before .before .before .before .before .loop .inv .1
+
+same-length-2 : tie.Need-same-length-2 Inv-loop μ-loop
+same-length-2 c = let a = c .before .before .before .before .before in a .act .kept .1 .1 .1 .0 ∙ a .before .before .before .before .before .before .before .before .loop .inv .2
+
+returns : tie.Need-returns Inv-loop μ-loop
+returns c = search needs
+
+turn-page-requires : tie.Need-turn-page-requires Inv-loop μ-loop
+turn-page-requires c κs = search needs
+
+loop-less : tie.Need-loop-less Inv-loop μ-loop
+loop-less c = 
+    let l = c .before .before .before .before .before .before .before .before .before .before .before .before .before .before .before in
+    let n = c .before .before .before .before .before .before .before .before .before .before .before .listen in
+    let part = l .before .before .before .before .args .part .now in
+    let rest = take (length part - l .loop .from) (drop (l .loop .from) part) in
+    let e : length rest ≡ length part - l .loop .from = left (l .loop .from) part in
+    let w : n .result .used ≤ length rest = rw (n .ensures) (listen-within _ rest) in
+    let t = c .before .before .before .before .before .before .before .before .before .before .before .before .before .before .loop-test .taken in
+    let h : 0 < length rest = omega (arith, t) in
+    let s : 0 < n .result .used = rw (n .ensures) (listen-some _ rest h) in
+    omega arith
+
+loop-again : tie.Need-loop-again Inv-loop μ-loop
+loop-again c = 
+    let l = c .before .before .before .before .before .before .before .before .before .before .before .before .before .before .before in
+    let n = c .before .before .before .before .before .before .before .before .before .before .before .listen in
+    let part = l .before .before .before .before .args .part .now in
+    let rest = take (length part - l .loop .from) (drop (l .loop .from) part) in
+    let e : length rest ≡ length part - l .loop .from = left (l .loop .from) part in
+    let w : n .result .used ≤ length rest = rw (n .ensures) (listen-within _ rest) in
+    let a = c .before .before .before .before .before .before .before .act in
+    (omega arith, a .kept .1 .1 .0 ∙ l .loop .inv .1, a .kept .1 .1 .1 .0 ∙ l .loop .inv .2)
+
+same-length-3 : tie.Need-same-length-3 Inv-loop μ-loop
+same-length-3 c = c .before .loop .inv .1
+
+same-length-4 : tie.Need-same-length-4 Inv-loop μ-loop
+same-length-4 c = c .before .loop .inv .2
+
+returns-2 : tie.Need-returns-2 Inv-loop μ-loop
+returns-2 c = search needs
+
+pub play-part-spec : {M : Type 1} → statement M
+play-part-spec =
+    tie.close
+    (tie.spec
+    Inv-loop
+    μ-loop
+    loop-holds
+    sub-listen
+    part-listen-start
+    part-listen-end
+    listen-requires
+    add-from
+    act-requires
+    same-length
+    same-length-2
+    returns
+    turn-page-requires
+    loop-less
+    loop-again
+    same-length-3
+    same-length-4
+    returns-2)
