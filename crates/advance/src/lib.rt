@@ -1,15 +1,27 @@
 // The step at a stage, of the one queue that it touches.
 ghost use mathlib.Core.Path.{_≡_};
-ghost use Rattle.core.specs.Out.{left};
-ghost use Rattle.advance.specs.Advance.{ofPush, ofPop, ofSteal, ofLength, ofOwnBatch, ofBatch, advanceOf};
+ghost use Rattle.core.specs.Out.{left, going};
+ghost use Rattle.op_push.specs.Push.{pushOf};
+ghost use Rattle.op_pop.specs.Pop.{popOf};
+ghost use Rattle.op_steal.specs.Steal.{stealOf};
+ghost use Rattle.op_length.specs.Length.{lengthStepOf, ownBatchOf};
+ghost use Rattle.op_batch_source.specs.Source.{sourceOf};
+ghost use Rattle.op_batch_own.specs.Own.{ownOf};
+ghost use Rattle.advance.specs.Advance.{ofPush, ofPop, ofSteal, ofLength, ofOwnBatch, ofBatch, beside, advanceOf};
 use core::answer::Answer;
 use core::answer::Refusal;
 use core::out::Claim;
 use core::out::Out;
 use core::queue::Flavor;
 use core::queue::Queue;
+use core::stage::LengthStage;
+use core::stage::OwnStage;
+use core::stage::PopStage;
 use core::stage::Popper;
+use core::stage::PushStage;
+use core::stage::SourceStage;
 use core::stage::Stage;
+use core::stage::StealStage;
 use op_batch::BatchOut;
 use op_batch_own::own_step;
 use op_batch_source::source_step;
@@ -23,60 +35,110 @@ use op_push::push_step;
 use op_steal::StealOut;
 use op_steal::steal_step;
 
-// What an operation's step left, as the thread's stage and answer.
-fn of_push(job: u64, out: PushOut) -> Out
-    ensures { λ r. ⌜ r ≡ ofPush job out ⌝ }
+// What an operation's step leaves, as the thread's stage and answer.
+fn push_at(job: u64, at: PushStage, q: Queue, claim: Claim, pool: &mut [u64]) -> Out
+    ensures { λ r. ⌜ left r (now (pool .exit)) ≡ beside (ofPush job) (pushOf job at q claim (now (pool .entry))) ⌝ }
 {
-    match out {
-        PushOut::Going(q, at) => Out::going(q, Stage::Push(job, at)),
-        PushOut::Ended(q, answer) => Out::ended(q, answer),
+    match push_step(job, at, q, claim, pool) {
+        PushOut::Going(r, next) => {
+            return Out::going(r, Stage::Push(job, next));
+        }
+        PushOut::Ended(r, answer) => {
+            return Out::ended(r, answer);
+        }
     }
 }
 
-fn of_pop(popper: Popper, out: PopOut) -> Out
-    ensures { λ r. ⌜ r ≡ ofPop popper out ⌝ }
+fn pop_at(popper: Popper, at: PopStage, q: Queue, claim: Claim, pool: &mut [u64]) -> Out
+    ensures { λ r. ⌜ left r (now (pool .exit)) ≡ beside (ofPop popper) (popOf popper at q claim (now (pool .entry))) ⌝ }
 {
-    match out {
-        PopOut::Going(q, at) => Out::going(q, Stage::Pop(popper, at)),
-        PopOut::Ended(q, answer) => Out::ended(q, answer),
+    match pop_step(popper, at, q, claim, pool) {
+        PopOut::Going(r, next) => {
+            return Out::going(r, Stage::Pop(popper, next));
+        }
+        PopOut::Ended(r, answer) => {
+            return Out::ended(r, answer);
+        }
     }
 }
 
-fn of_steal(source: usize, out: StealOut) -> Out
-    ensures { λ r. ⌜ r ≡ ofSteal source out ⌝ }
+fn steal_at(source: usize, at: StealStage, q: Queue, pool: &[u64]) -> Out
+    ensures { λ r. ⌜ r ≡ ofSteal source (stealOf at q (now (pool .entry))) ⌝ }
 {
-    match out {
-        StealOut::Going(q, at) => Out::going(q, Stage::Steal(source, at)),
-        StealOut::Ended(q, answer) => Out::ended(q, answer),
+    match steal_step(at, q, pool) {
+        StealOut::Going(r, next) => {
+            return Out::going(r, Stage::Steal(source, next));
+        }
+        StealOut::Ended(r, answer) => {
+            return Out::ended(r, answer);
+        }
     }
 }
 
-fn of_length(queue: usize, out: LengthOut) -> Out
-    ensures { λ r. ⌜ r ≡ ofLength queue out ⌝ }
+fn length_at(queue: usize, at: LengthStage, q: Queue) -> Out
+    ensures { λ r. ⌜ r ≡ ofLength queue (lengthStepOf at q) ⌝ }
 {
-    match out {
-        LengthOut::Going(q, at) => Out::going(q, Stage::Length(queue, at)),
-        LengthOut::Ended(q, answer) => Out::ended(q, answer),
+    match length_step(at, q) {
+        LengthOut::Going(r, next) => {
+            return Out::going(r, Stage::Length(queue, next));
+        }
+        LengthOut::Ended(r, answer) => {
+            return Out::ended(r, answer);
+        }
     }
 }
 
-fn of_own_batch(out: LengthOut) -> Out
-    ensures { λ r. ⌜ r ≡ ofOwnBatch out ⌝ }
+fn own_batch_at(at: LengthStage, q: Queue) -> Out
+    ensures { λ r. ⌜ r ≡ ofOwnBatch (ownBatchOf at q) ⌝ }
 {
-    match out {
-        LengthOut::Going(q, at) => Out::going(q, Stage::OwnBatch(at)),
-        LengthOut::Ended(q, answer) => Out::ended(q, answer),
+    match own_batch_step(at, q) {
+        LengthOut::Going(r, next) => {
+            return Out::going(r, Stage::OwnBatch(next));
+        }
+        LengthOut::Ended(r, answer) => {
+            return Out::ended(r, answer);
+        }
     }
+}
+
+fn to_source(source: usize, q: Queue, at: SourceStage) -> Out
+    ensures { λ r. ⌜ r ≡ going q (Stage.BatchSource source at) ⌝ }
+{
+    Out::going(q, Stage::BatchSource(source, at))
+}
+
+fn to_own(source: usize, q: Queue, at: OwnStage) -> Out
+    ensures { λ r. ⌜ r ≡ going q (Stage.BatchOwn source at) ⌝ }
+{
+    Out::going(q, Stage::BatchOwn(source, at))
 }
 
 fn of_batch(source: usize, out: BatchOut) -> Out
     ensures { λ r. ⌜ r ≡ ofBatch source out ⌝ }
 {
     match out {
-        BatchOut::Source(q, at) => Out::going(q, Stage::BatchSource(source, at)),
-        BatchOut::Own(q, at) => Out::going(q, Stage::BatchOwn(source, at)),
-        BatchOut::Ended(q, answer) => Out::ended(q, answer),
+        BatchOut::Source(q, at) => {
+            return to_source(source, q, at);
+        }
+        BatchOut::Own(q, at) => {
+            return to_own(source, q, at);
+        }
+        BatchOut::Ended(q, answer) => {
+            return Out::ended(q, answer);
+        }
     }
+}
+
+fn source_at(own: Flavor, source: usize, at: SourceStage, q: Queue, pool: &[u64]) -> Out
+    ensures { λ r. ⌜ r ≡ ofBatch source (sourceOf own at q (now (pool .entry))) ⌝ }
+{
+    of_batch(source, source_step(own, at, q, pool))
+}
+
+fn own_at(source: usize, at: OwnStage, q: Queue, claim: Claim, pool: &mut [u64]) -> Out
+    ensures { λ r. ⌜ left r (now (pool .exit)) ≡ beside (ofBatch source) (ownOf at q claim (now (pool .entry))) ⌝ }
+{
+    of_batch(source, own_step(at, q, claim, pool))
 }
 
 // own: the flavour of the thread's own queue; q: the queue that the step touches; claim: what a claim found, where the step makes one.
@@ -84,13 +146,29 @@ pub fn advance(stage: Stage, own: Flavor, q: Queue, claim: Claim, pool: &mut [u6
     ensures { λ r. ⌜ left r (now (pool .exit)) ≡ advanceOf stage own q claim (now (pool .entry)) ⌝ }
 {
     match stage {
-        Stage::Idle => Out::ended(q, Answer::Refused(Refusal::Idle)),
-        Stage::Push(job, at) => of_push(job, push_step(job, at, q, claim, pool)),
-        Stage::Pop(popper, at) => of_pop(popper, pop_step(popper, at, q, claim, pool)),
-        Stage::Steal(source, at) => of_steal(source, steal_step(at, q, pool)),
-        Stage::Length(queue, at) => of_length(queue, length_step(at, q)),
-        Stage::OwnBatch(at) => of_own_batch(own_batch_step(at, q)),
-        Stage::BatchSource(source, at) => of_batch(source, source_step(own, at, q, pool)),
-        Stage::BatchOwn(source, at) => of_batch(source, own_step(at, q, claim, pool)),
+        Stage::Idle => {
+            return Out::ended(q, Answer::Refused(Refusal::Idle));
+        }
+        Stage::Push(job, at) => {
+            return push_at(job, at, q, claim, pool);
+        }
+        Stage::Pop(popper, at) => {
+            return pop_at(popper, at, q, claim, pool);
+        }
+        Stage::Steal(source, at) => {
+            return steal_at(source, at, q, pool);
+        }
+        Stage::Length(queue, at) => {
+            return length_at(queue, at, q);
+        }
+        Stage::OwnBatch(at) => {
+            return own_batch_at(at, q);
+        }
+        Stage::BatchSource(source, at) => {
+            return source_at(own, source, at, q, pool);
+        }
+        Stage::BatchOwn(source, at) => {
+            return own_at(source, at, q, claim, pool);
+        }
     }
 }

@@ -22,7 +22,6 @@ use Rattle.core.specs.declared.stage.OneStage.{OneStage}
 use Rattle.core.specs.declared.stage.OneStage.the-variants as E
 use Rattle.core.specs.declared.stage.ReserveStage.{ReserveStage}
 use Rattle.core.specs.declared.stage.ReserveStage.the-variants as Y
-use Rattle.core.specs.declared.stage.SwapStage.{SwapStage}
 use Rattle.core.specs.declared.stage.SwapStage.the-variants as X
 use Rattle.core.specs.declared.stage.SourceStage.the-variants as S
 use Rattle.core.specs.declared.stage.OwnStage.{OwnStage}
@@ -41,9 +40,6 @@ oneAt q at = Source q (S.One at)
 
 abbrev pub reserveAt : Queue → ReserveStage → BatchOut
 reserveAt q at = Own q (O.Reserve at)
-
-abbrev pub swapAt : Queue → SwapStage → BatchOut
-swapAt q at = Own q (O.Swap at)
 
 -- n, of a difference d and a limit, which is others + 1: n = min((d + 1) / 2, limit); of a batch and pop min((d - 1) / 2, limit - 1)
 abbrev pub wantedOf : BatchKind → ℕ → ℕ → ℕ

@@ -2,7 +2,7 @@
 ghost use mathlib.Core.Path.{_≡_};
 ghost use Prim.Native.Nat.{_+_, min};
 ghost use lib.Dec.{leb};
-ghost use Rattle.op_batch.specs.Haul.{allAt, oneAt, reserveAt, swapAt, wantedOf, reserving as reservingOf, withJob, onward as onwardOf, withCount, firstOf, copying as copyingOf, mirrorOf, slotOf, swapping as swappingOf, landing as landingOf, isNothing, stopped as stoppedOf, turning as turningOf, toWrite, nextInHand, answerOf};
+ghost use Rattle.op_batch.specs.Haul.{allAt, oneAt, reserveAt, wantedOf, reserving as reservingOf, withJob, onward as onwardOf, withCount, firstOf, copying as copyingOf, mirrorOf, slotOf, swapping as swappingOf, landing as landingOf, isNothing, stopped as stoppedOf, turning as turningOf, toWrite, nextInHand, answerOf};
 use core::answer::Answer;
 use core::queue::Flavor;
 use core::queue::Queue;
@@ -43,12 +43,6 @@ pub fn reserve_at(q: Queue, at: ReserveStage) -> BatchOut
     ensures { λ r. ⌜ r ≡ reserveAt q at ⌝ }
 {
     BatchOut::Own(q, OwnStage::Reserve(at))
-}
-
-pub fn swap_at(q: Queue, at: SwapStage) -> BatchOut
-    ensures { λ r. ⌜ r ≡ swapAt q at ⌝ }
-{
-    BatchOut::Own(q, OwnStage::Swap(at))
 }
 
 fn smaller(a: u64, b: u64) -> u64

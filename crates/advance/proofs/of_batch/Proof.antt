@@ -6,14 +6,20 @@ use Rattle.advance.proofs.of_batch.Tie as tie
 enum-known-out : tie.Need-enum-known-out
 enum-known-out c = search needs
 
-going-requires : tie.Need-going-requires
-going-requires c κs = search needs
+to-source-requires : tie.Need-to-source-requires
+to-source-requires c κs = search needs
+
+returns : tie.Need-returns
+returns c = rw (c .before .before .out .given .1, c .to-source .ensures)
 
 enum-known-out-2 : tie.Need-enum-known-out-2
 enum-known-out-2 c = search needs
 
-going-requires-2 : tie.Need-going-requires-2
-going-requires-2 c κs = search needs
+to-own-requires : tie.Need-to-own-requires
+to-own-requires c κs = search needs
+
+returns-2 : tie.Need-returns-2
+returns-2 c = rw (c .before .before .out2 .given .1, c .to-own .ensures)
 
 enum-known-out-3 : tie.Need-enum-known-out-3
 enum-known-out-3 c = search needs
@@ -21,14 +27,8 @@ enum-known-out-3 c = search needs
 ended-requires : tie.Need-ended-requires
 ended-requires c κs = search needs
 
-returns : tie.Need-returns
-returns c = rw (c .before .before .out .given .1, c .going .ensures)
-
-returns-2 : tie.Need-returns-2
-returns-2 c = rw (c .before .before .out2 .given .1, c .going2 .ensures)
-
 returns-3 : tie.Need-returns-3
 returns-3 c = rw (c .before .before .out3 .given .1, c .ended .ensures)
 
 pub of-batch-spec : {M : Type 1} → statement M
-of-batch-spec = tie.close (tie.spec enum-known-out going-requires enum-known-out-2 going-requires-2 enum-known-out-3 ended-requires returns returns-2 returns-3)
+of-batch-spec = tie.close (tie.spec enum-known-out to-source-requires returns enum-known-out-2 to-own-requires returns-2 enum-known-out-3 ended-requires returns-3)
