@@ -1,8 +1,7 @@
 -- Game C13 of 01: FIFO holds job 7. Owner does two steps of pop; a thief steals 7; the owner's third step leaves front 2, back 1, difference
 -- -1, length 0; its fourth stores 1 and answers nothing.
 use mathlib.Core.Path.{_≡_, refl}
-use mathlib.Core.List.{List, [], _∷_}
-use Prim.Native.Nat.{ℕ}
+use mathlib.Core.List.{[], _∷_}
 use lib.Count.{ones, onesIn}
 use lib.IntN.{ℤ, pos, negsuc}
 use Rattle.base.specs.Below.{allBelow, anyBelow, firstNot}

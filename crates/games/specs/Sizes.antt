@@ -1,6 +1,6 @@
 -- Games C11 and C12 of 01: growing and shrinking, on queues that were filled by pushing.
 use mathlib.Core.Path.{_≡_, refl}
-use mathlib.Core.List.{List, [], _∷_}
+use mathlib.Core.List.{[], _∷_}
 use Prim.Native.Nat.{ℕ}
 use lib.Count.{ones, onesIn}
 use Rattle.base.specs.Below.{allBelow, anyBelow, firstNot}
@@ -18,7 +18,7 @@ use Rattle.machine.specs.Claim.{freeRing}
 use Rattle.machine.specs.Setup.{setupOf}
 use Rattle.machine.specs.Step.{gateOf, stepOf}
 use Rattle.machine.specs.Begin.{beginOf}
-use Rattle.games.specs.Play.{Sized, sized, sizedBy, setup, repeated, finish}
+use Rattle.games.specs.Play.{sized, sizedBy, setup, repeated, finish}
 
 -- jobs 0, 1, .. pushed into queue 0
 abbrev filled : ℕ → After → After

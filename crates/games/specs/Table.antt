@@ -8,11 +8,11 @@ use Rattle.core.specs.declared.queue.Flavor.the-variants.{Fifo, Lifo}
 use Rattle.core.specs.declared.answer.Answer.the-variants as A
 use Rattle.steal.specs.declared.Steal.the-variants as T
 use Rattle.machine.specs.declared.operation.Operation.the-variants.{Push, Pop, Length, Steal, Batch, BatchAndPop}
-use Rattle.games.specs.Play.{Did, does, Game, allPlayed, played, playing, finish, cellsFrom, contentsUpTo}
+use Rattle.games.specs.Play.{Did, does, Game, allPlayed, playing, finish, cellsFrom, contentsUpTo}
 use Rattle.base.specs.Below.{allBelow, anyBelow, firstNot}
 use Rattle.index.specs.Index.{wrap, plusOf, minusOf, differenceOf, lengthOf, behindB, emptyB, fullB, spansB, sameB, cellOf}
 use Rattle.ring.specs.Capacity.{allowedB, twiceOf, doubled, holdingOf}
-use Rattle.cells.specs.Cells.{standsB, spot, readOf, writtenOf, stretchOf}
+use Rattle.cells.specs.Cells.{standsB, spot, readOf, writtenOf}
 use Rattle.machine.specs.Sound.{soundB}
 use Rattle.machine.specs.Claim.{freeRing}
 use Rattle.machine.specs.Setup.{setupOf}

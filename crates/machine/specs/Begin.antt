@@ -49,8 +49,11 @@ limitB (Batch src limit) = not (eqb limit 0)
 limitB (BatchAndPop src limit) = not (eqb limit 0)
 
 -- a begin that passed the gate
+abbrev pub beginTests : ℕ → Bool → Operation → Gate
+beginTests k idle o = pick (namesB k o) (pick idle (pick (limitB o) Open (Shut NoLimit)) (Shut Busy)) (Shut NoSuch)
+
 abbrev pub beginGate : ℕ → Stage → Operation → Gate
-beginGate k s o = pick (namesB k o) (pick (idleB s) (pick (limitB o) Open (Shut NoLimit)) (Shut Busy)) (Shut NoSuch)
+beginGate k s o = beginTests k (idleB s) o
 
 abbrev pub popping : Flavor → PopStage
 popping F.Fifo = P.Fifo D.LoadBack

@@ -39,9 +39,12 @@ freshQueue k flavors q =
     })
     zeroQueue
 
+abbrev pub freshQueues : ℕ → List Flavor → List Queue
+freshQueues k flavors = freshQueue k flavors 0 ∷ freshQueue k flavors 1 ∷ freshQueue k flavors 2 ∷ freshQueue k flavors 3 ∷ []
+
 abbrev pub freshMachine : ℕ → List Flavor → ℕ → Machine
 freshMachine k flavors n = record {
-  queues = freshQueue k flavors 0 ∷ freshQueue k flavors 1 ∷ freshQueue k flavors 2 ∷ freshQueue k flavors 3 ∷ [];
+  queues = freshQueues k flavors;
   threads = idleThreads;
   «queue_count» = k;
   «place_count» = n;

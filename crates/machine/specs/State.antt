@@ -1,9 +1,11 @@
 -- The machine's parts, and the machine with one part changed.
-use Prim.Native.Nat.{ℕ, _+_, _%_, _^_}
+use Prim.Native.Nat.{ℕ}
 use mathlib.Core.List.{List}
 use lib.IntN.{pos}
 use lib.ListN.{getD, set}
 use Rattle.index.specs.declared.Index.{Index}
+use Rattle.ring.specs.declared.RingNumber.{RingNumber}
+use Rattle.ring.specs.Number.{nextNumber}
 use Rattle.core.specs.declared.queue.Flavor.the-variants.{Fifo}
 use Rattle.core.specs.declared.queue.Queue.{Queue}
 use Rattle.core.specs.declared.stage.Stage.{Stage}
@@ -78,12 +80,15 @@ withStage m t s = record {
 }
 
 -- ring numbers count up: the next, after a claim
+abbrev pub numberAfter : RingNumber → Claim → RingNumber
+numberAfter n Nothing = n
+numberAfter n (Got number place) = nextNumber number
+
 abbrev pub counted : Machine → Claim → Machine
-counted m Nothing = m
-counted m (Got number place) = record {
+counted m g = record {
   queues = m .queues;
   threads = m .threads;
   «queue_count» = m .«queue_count»;
   «place_count» = m .«place_count»;
-  «next_ring» = record { 0 = (number .0 + 1) % 2 ^ 64 };
+  «next_ring» = numberAfter (m .«next_ring») g;
 }

@@ -2,11 +2,10 @@
 ghost use mathlib.Core.Path.{_≡_};
 ghost use Rattle.machine.specs.Claim.{usedBy, usedB, freePlace, freeRing, claimOf};
 use crate::state::Machine;
-use core::kept::ring_kept;
 use core::out::Claim;
 use core::stage::Stage;
 use core::stages::claims;
-use ring::PlaceNumber;
+use op_resize::found;
 use sound::kept::keeps_in;
 
 impl Machine {
@@ -14,7 +13,7 @@ impl Machine {
     fn used_by(self, place: usize, i: usize) -> bool
         ensures { λ r. ⌜ r ≡ usedBy self place i ⌝ }
     {
-        (self.queue(i).ring.place.0 == place) | keeps_in(ring_kept(self.stage(i)), place)
+        (self.place(i) == place) | keeps_in(self.kept(i), place)
     }
 
     fn used(self, place: usize) -> bool
@@ -49,17 +48,7 @@ impl Machine {
     fn free_ring(self) -> Claim
         ensures { λ r. ⌜ r ≡ freeRing self ⌝ }
     {
-        let place = self.free_place();
-        if place < self.place_count {
-            if self.next_ring.0 < u64::MAX {
-                let number = self.next_ring;
-                return Claim::Got {
-                    number,
-                    place: PlaceNumber(place),
-                };
-            }
-        }
-        Claim::Nothing
+        found(self.free_place(), self.place_count, self.next_ring)
     }
 
     // What the step at a stage claims.

@@ -2,8 +2,8 @@
 ghost use mathlib.Core.Path.{_≡_};
 ghost use lib.ListN.{getD};
 ghost use Rattle.core.specs.declared.queue.Flavor.the-variants.{Fifo};
-ghost use Rattle.machine.specs.State.{leaves};
-ghost use Rattle.machine.specs.Setup.{zeroMachine, freshQueue, freshMachine, setupOf};
+ghost use Rattle.machine.specs.State.{leaves, refusedOf};
+ghost use Rattle.machine.specs.Setup.{idleThreads, zeroMachine, freshQueue, freshQueues, freshMachine, setupOf};
 use crate::state::Called;
 use crate::state::Machine;
 use crate::state::Thread;
@@ -19,20 +19,6 @@ use ring::PlaceNumber;
 use ring::Ring;
 use ring::RingNumber;
 use sound::counts_in_range;
-
-fn zero_machine() -> Machine
-    ensures { λ r. ⌜ r ≡ zeroMachine ⌝ }
-{
-    let q = zero_queue();
-    let idle = Thread { stage: Stage::Idle };
-    Machine {
-        queues: [q, q, q, q],
-        threads: [idle, idle, idle, idle],
-        queue_count: 0,
-        place_count: 0,
-        next_ring: RingNumber(0),
-    }
-}
 
 // Fifo where no flavour is given.
 fn flavor_at(flavors: [Flavor; 4], q: usize) -> Flavor
@@ -62,21 +48,43 @@ fn fresh_queue(count: usize, flavors: [Flavor; 4], q: usize) -> Queue
     zero_queue()
 }
 
-fn fresh_machine(count: usize, flavors: [Flavor; 4], places: usize) -> Machine
-    ensures { λ r. ⌜ r ≡ freshMachine count flavors places ⌝ }
+fn fresh_queues(count: usize, flavors: [Flavor; 4]) -> [Queue; 4]
+    ensures { λ r. ⌜ r ≡ freshQueues count flavors ⌝ }
 {
     let q0 = fresh_queue(count, flavors, 0);
     let q1 = fresh_queue(count, flavors, 1);
     let q2 = fresh_queue(count, flavors, 2);
     let q3 = fresh_queue(count, flavors, 3);
+    [q0, q1, q2, q3]
+}
+
+fn idle_threads() -> [Thread; 4]
+    ensures { λ r. ⌜ r ≡ idleThreads ⌝ }
+{
     let idle = Thread { stage: Stage::Idle };
+    [idle, idle, idle, idle]
+}
+
+fn fresh_machine(count: usize, flavors: [Flavor; 4], places: usize) -> Machine
+    ensures { λ r. ⌜ r ≡ freshMachine count flavors places ⌝ }
+{
+    let queues = fresh_queues(count, flavors);
+    let threads = idle_threads();
     Machine {
-        queues: [q0, q1, q2, q3],
-        threads: [idle, idle, idle, idle],
+        queues,
+        threads,
         queue_count: count,
         place_count: places,
         next_ring: RingNumber(count as u64),
     }
+}
+
+// The machine of zeros.
+fn turned_away(refusal: Refusal) -> Called
+    ensures { λ r. ⌜ r ≡ refusedOf zeroMachine refusal ⌝ }
+{
+    let flavors = [Flavor::Fifo; 4];
+    fresh_machine(0, flavors, 0).refused(refusal)
 }
 
 impl Machine {
@@ -85,10 +93,10 @@ impl Machine {
         ensures { λ r. ⌜ leaves r (now (pool .entry)) ≡ setupOf queues flavors places (now (pool .entry)) ⌝ }
     {
         if !counts_in_range(queues, places) {
-            return zero_machine().refused(Refusal::Counts);
+            return turned_away(Refusal::Counts);
         }
         if pool.len() != places * PLACE_CELLS {
-            return zero_machine().refused(Refusal::PoolLength);
+            return turned_away(Refusal::PoolLength);
         }
         Called {
             machine: fresh_machine(queues, flavors, places),

@@ -1,9 +1,10 @@
 // Whether a machine is sound.
 ghost use mathlib.Core.Path.{_≡_};
 ghost use Rattle.base.specs.Below.{allBelow};
+ghost use Rattle.sound.specs.Sound.{stageSound};
+ghost use Rattle.machine.specs.State.{stageAt};
 ghost use Rattle.machine.specs.Sound.{apartB, queuesSound, stagesSound, allApart, soundB};
 use crate::state::Machine;
-use core::kept::ring_kept;
 use sound::counts_in_range;
 use sound::kept::both_build;
 use sound::kept::builds_in;
@@ -26,14 +27,19 @@ impl Machine {
         true
     }
 
+    fn is_stage_sound(self, t: usize) -> bool
+        ensures { λ r. ⌜ r ≡ stageSound (self .«queue_count») (self .«place_count») (stageAt self t) ⌝ }
+    {
+        stage_sound(self.queue_count, self.place_count, self.stage(t))
+    }
+
     fn stages_sound(self) -> bool
         ensures { λ r. ⌜ r ≡ stagesSound self ⌝ }
     {
         let count = self.queue_count;
-        let places = self.place_count;
         let mut t = 0;
         while t < count {
-            if !stage_sound(count, places, self.stage(t)) {
+            if !self.is_stage_sound(t) {
                 return false;
             }
             t += 1;
@@ -45,10 +51,10 @@ impl Machine {
     fn apart(self, i: usize, j: usize) -> bool
         ensures { λ r. ⌜ r ≡ apartB self i j ⌝ }
     {
-        let first = self.queue(i).ring.place.0;
-        let second = self.queue(j).ring.place.0;
-        let kept = ring_kept(self.stage(i));
-        let other = ring_kept(self.stage(j));
+        let first = self.place(i);
+        let second = self.place(j);
+        let kept = self.kept(i);
+        let other = self.kept(j);
         !builds_in(other, first) & ((i == j) | ((first != second) & !both_build(kept, other)))
     }
 

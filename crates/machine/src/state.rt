@@ -1,8 +1,12 @@
 // The machine, its parts, and the machine with one part changed.
 ghost use mathlib.Core.Path.{_≡_};
-ghost use Rattle.machine.specs.State.{zeroQueue, queueAt, stageAt, withQueue, withStage, counted as countedOf, refusedOf, ownQueue};
+ghost use lib.ListN.{getD, set};
+ghost use Rattle.core.specs.Kept.{keptOf};
+ghost use Rattle.machine.specs.State.{zeroQueue, queueAt, stageAt, withQueue, withStage, numberAfter, counted as countedOf, refusedOf, ownQueue};
 use core::answer::Answer;
 use core::answer::Refusal;
+use core::kept::Kept;
+use core::kept::ring_kept;
 use core::out::Claim;
 use core::queue::Flavor;
 use core::queue::Queue;
@@ -54,12 +58,39 @@ pub(crate) fn zero_queue() -> Queue
     }
 }
 
+// Queue k of these, and zeros where there is none.
+fn queue_of(queues: [Queue; 4], k: usize) -> Queue
+    ensures { λ r. ⌜ r ≡ getD queues k zeroQueue ⌝ }
+{
+    if k < 4 { queues[k] } else { zero_queue() }
+}
+
+fn queues_with(mut queues: [Queue; 4], k: usize, q: Queue) -> [Queue; 4]
+    ensures { λ r. ⌜ r ≡ set queues k q ⌝ }
+{
+    if k < 4 {
+        queues[k] = q;
+    }
+    queues
+}
+
+// A ring number that was given is never given again.
+fn number_after(next: RingNumber, claim: Claim) -> RingNumber
+    ensures { λ r. ⌜ r ≡ numberAfter next claim ⌝ }
+{
+    match claim {
+        Claim::Nothing => next,
+        Claim::Got { number, place: _ } => number.next(),
+    }
+}
+
 impl Machine {
     // Queue k, and zeros where there is none.
     pub fn queue(self, k: usize) -> Queue
         ensures { λ r. ⌜ r ≡ queueAt self k ⌝ }
     {
-        if k < 4 { self.queues[k] } else { zero_queue() }
+        let queues = self.queues;
+        queue_of(queues, k)
     }
 
     // Thread t's stage, and idle where there is none.
@@ -68,18 +99,32 @@ impl Machine {
     {
         if t < 4 {
             let thread = self.threads[t];
-            thread.stage
-        } else {
-            Stage::Idle
+            return thread.stage;
         }
+        Stage::Idle
+    }
+
+    // The ring that thread t keeps.
+    pub(crate) fn kept(self, t: usize) -> Kept
+        ensures { λ r. ⌜ r ≡ keptOf (stageAt self t) ⌝ }
+    {
+        ring_kept(self.stage(t))
+    }
+
+    // The place of queue k's ring.
+    pub(crate) fn place(self, k: usize) -> usize
+        ensures { λ r. ⌜ r ≡ queueAt self k .ring .place .0 ⌝ }
+    {
+        let q = self.queue(k);
+        q.ring.place.0
     }
 
     pub(crate) fn with_queue(mut self, k: usize, q: Queue) -> Machine
         ensures { λ r. ⌜ r ≡ withQueue self k q ⌝ }
     {
-        if k < 4 {
-            self.queues[k] = q;
-        }
+        let queues = self.queues;
+        let changed = queues_with(queues, k, q);
+        self.queues = changed;
         self
     }
 
@@ -93,18 +138,12 @@ impl Machine {
         self
     }
 
-    // A ring number that was given is never given again.
     pub(crate) fn counted(mut self, claim: Claim) -> Machine
         ensures { λ r. ⌜ r ≡ countedOf self claim ⌝ }
     {
-        match claim {
-            Claim::Nothing => self,
-            Claim::Got { number, place: _ } => {
-                let next = RingNumber(std::num::wrapping_add_u64(number.0, 1));
-                self.next_ring = next;
-                self
-            }
-        }
+        let next = number_after(self.next_ring, claim);
+        self.next_ring = next;
+        self
     }
 
     // All as it was.

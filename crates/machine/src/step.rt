@@ -1,7 +1,9 @@
 // One step of a thread.
 ghost use mathlib.Core.Path.{_≡_};
+ghost use mathlib.Core.List.{[]};
+ghost use Rattle.core.specs.Out.{left};
 ghost use Rattle.machine.specs.State.{leaves, stageAt};
-ghost use Rattle.machine.specs.Step.{stepGate, ran as ranOf, stepOf};
+ghost use Rattle.machine.specs.Step.{gateOf, stepGate, thenGate, stored as storedOf, ran as ranOf, stepOf};
 use crate::gate::then_gate;
 use crate::operation::Gate;
 use crate::state::Called;
@@ -9,6 +11,8 @@ use crate::state::Machine;
 use crate::state::own_queue;
 use advance::advance;
 use core::answer::Refusal;
+use core::out::Claim;
+use core::out::Out;
 use core::stage::Stage;
 use core::stages::is_idle;
 use core::stages::touched;
@@ -24,16 +28,17 @@ fn step_gate(stage: Stage) -> Gate
 }
 
 impl Machine {
-    // A step that passed the tests: look up, claim if the stage wants to, advance, store back.
-    fn ran(mut self, pool: &mut [u64], thread: usize, stage: Stage) -> Called
-        ensures { λ r. ⌜ leaves r (now (pool .exit)) ≡ ranOf self (now (pool .entry)) thread stage ⌝ }
+    // All the tests of a step, in order.
+    fn may_step(self, length: usize, thread: usize) -> Gate
+        ensures { λ r. ⌜ r ≡ thenGate (gateOf self length thread) (stepGate (stageAt self thread)) ⌝ }
     {
-        let own = own_queue(thread);
-        let k = touched(stage, own);
-        let mine = self.queue(own);
-        let flavor = mine.flavor;
-        let claim = self.claim(stage);
-        let out = advance(stage, flavor, self.queue(k), claim, pool);
+        then_gate(self.gate(length, thread), step_gate(self.stage(thread)))
+    }
+
+    // The machine with what the thread's step left of queue k.
+    fn stored(mut self, thread: usize, k: usize, claim: Claim, out: Out) -> Called
+        ensures { λ r. ⌜ r ≡ storedOf self thread k claim (left out []) .called ⌝ }
+    {
         let next = out.stage;
         let answer = out.answer;
         self = self.counted(claim);
@@ -45,13 +50,29 @@ impl Machine {
         }
     }
 
-    pub fn step(mut self, pool: &mut [u64], thread: usize) -> Called
+    // A step that passed the tests: look up, claim if the stage wants to, advance, store back.
+    fn ran(self, pool: &mut [u64], thread: usize, stage: Stage) -> Called
+        ensures { λ r. ⌜ leaves r (now (pool .exit)) ≡ ranOf self (now (pool .entry)) thread stage ⌝ }
+    {
+        let own = own_queue(thread);
+        let k = touched(stage, own);
+        let mine = self.queue(own);
+        let flavor = mine.flavor;
+        let claim = self.claim(stage);
+        let out = advance(stage, flavor, self.queue(k), claim, pool);
+        self.stored(thread, k, claim, out)
+    }
+
+    pub fn step(self, pool: &mut [u64], thread: usize) -> Called
         ensures { λ r. ⌜ leaves r (now (pool .exit)) ≡ stepOf self (now (pool .entry)) thread ⌝ }
     {
-        let stage = self.stage(thread);
-        match then_gate(self.gate(pool.len(), thread), step_gate(stage)) {
-            Gate::Open => self.ran(pool, thread, stage),
-            Gate::Shut(refusal) => self.refused(refusal),
+        match self.may_step(pool.len(), thread) {
+            Gate::Open => {
+                return self.ran(pool, thread, self.stage(thread));
+            }
+            Gate::Shut(refusal) => {
+                return self.refused(refusal);
+            }
         }
     }
 }

@@ -22,29 +22,24 @@ use Rattle.core.specs.declared.stage.OneStage.{OneStage}
 use Rattle.core.specs.declared.stage.OneStage.the-variants as E
 use Rattle.core.specs.declared.stage.ReserveStage.{ReserveStage}
 use Rattle.core.specs.declared.stage.ReserveStage.the-variants as Y
-use Rattle.core.specs.declared.stage.SwapStage.{SwapStage}
 use Rattle.core.specs.declared.stage.SwapStage.the-variants as X
 use Rattle.core.specs.declared.stage.SourceStage.the-variants as S
+use Rattle.core.specs.declared.stage.OwnStage.{OwnStage}
 use Rattle.core.specs.declared.stage.OwnStage.the-variants as O
-use Rattle.core.specs.declared.stage.Stage.{Stage}
-use Rattle.core.specs.declared.stage.Stage.the-variants.{BatchSource, BatchOwn}
 use Rattle.core.specs.declared.answer.Answer.{Answer}
 use Rattle.core.specs.declared.answer.Answer.the-variants.{Stolen, Moved}
-use Rattle.core.specs.declared.out.Out.{Out}
-use Rattle.core.specs.Out.{going, ended}
+use Rattle.op_batch.specs.declared.BatchOut.{BatchOut}
+use Rattle.op_batch.specs.declared.BatchOut.the-variants.{Source, Own, Ended}
 
--- the stages of the parts of a batch whose source is k
-abbrev pub allAt : ℕ → AllStage → Stage
-allAt k at = BatchSource k (S.All at)
+-- on to a stage of a part of the batch
+abbrev pub allAt : Queue → AllStage → BatchOut
+allAt q at = Source q (S.All at)
 
-abbrev pub oneAt : ℕ → OneStage → Stage
-oneAt k at = BatchSource k (S.One at)
+abbrev pub oneAt : Queue → OneStage → BatchOut
+oneAt q at = Source q (S.One at)
 
-abbrev pub reserveAt : ℕ → ReserveStage → Stage
-reserveAt k at = BatchOwn k (O.Reserve at)
-
-abbrev pub swapAt : ℕ → SwapStage → Stage
-swapAt k at = BatchOwn k (O.Swap at)
+abbrev pub reserveAt : Queue → ReserveStage → BatchOut
+reserveAt q at = Own q (O.Reserve at)
 
 -- n, of a difference d and a limit, which is others + 1: n = min((d + 1) / 2, limit); of a batch and pop min((d - 1) / 2, limit - 1)
 abbrev pub wantedOf : BatchKind → ℕ → ℕ → ℕ
@@ -52,8 +47,8 @@ wantedOf Batch d others = min ((d + 1) / 2) (others + 1)
 wantedOf BatchAndPop d others = min ((d - 1) / 2) others
 
 -- reserve n in the own queue, if n > 0
-abbrev pub reserving : ℕ → Wanted → Stage
-reserving k w = pick (eqb (w .n) 0) (BatchOwn k (O.LoadBack w)) (reserveAt k (Y.LoadBack w))
+abbrev pub reserving : Wanted → OwnStage
+reserving w = pick (eqb (w .n) 0) (O.LoadBack w) (O.Reserve (Y.LoadBack w))
 
 abbrev pub hauling : Ring → Wanted → Index → Haul
 hauling ring w b = record { ring = ring; f = w .f; n = w .n; b = b; «in_hand» = Nothing }
@@ -76,8 +71,8 @@ firstOf Nothing f = f
 firstOf (Job job) f = plusOf f 1
 
 -- i copied: the next, or load ring
-abbrev pub copying : ℕ → Haul → ℕ → Stage
-copying k h i = pick (leb (h .n) i) (allAt k (A.ReloadRing h)) (allAt k (A.Copy h i))
+abbrev pub copying : Haul → ℕ → AllStage
+copying h i = pick (leb (h .n) i) (A.ReloadRing h) (A.Copy h i)
 
 -- the i-th of n from the other end
 abbrev pub mirrorOf : ℕ → ℕ → ℕ
@@ -91,26 +86,25 @@ slotOf Lifo h i = plusOf (h .b) (mirrorOf (h .n) i)
 -- ---- LIFO source, n times
 
 -- swaps from the outside in, x made: the next, or store own back
-abbrev pub swapping : ℕ → Haul → ℕ → Stage
-swapping k h x = pick (leb (h .n / 2) x) (BatchOwn k (O.StoreBack h)) (swapAt k (X.ReadNear h x))
+abbrev pub swapping : Haul → ℕ → OwnStage
+swapping h x = pick (leb (h .n / 2) x) (O.StoreBack h) (O.Swap (X.ReadNear h x))
 
 -- into FIFO: reverse what was written
-abbrev pub landing : Flavor → ℕ → Haul → Stage
-landing Fifo k h = swapping k h 0
-landing Lifo k h = BatchOwn k (O.StoreBack h)
+abbrev pub landing : Flavor → Haul → OwnStage
+landing Fifo h = swapping h 0
+landing Lifo h = O.StoreBack h
 
 abbrev pub isNothing : InHand → Bool
 isNothing Nothing = true
 isNothing (Job job) = false
 
 -- stop, with i written. None taken: Retry
-abbrev pub stopped : Flavor → ℕ → Haul → ℕ → Queue → Out
-stopped own k h i q =
-    pick (isNothing (h .«in_hand») && eqb i 0) (ended q (Stolen Retry)) (going q (landing own k (withCount h i)))
+abbrev pub stopped : Flavor → Haul → ℕ → Queue → BatchOut
+stopped own h i q = pick (isNothing (h .«in_hand») && eqb i 0) (Ended q (Stolen Retry)) (Own q (landing own (withCount h i)))
 
 -- i written: load back for the next, or stop after n
-abbrev pub turning : Flavor → ℕ → Haul → ℕ → Queue → Out
-turning own k h i q = pick (leb (h .n) i) (stopped own k h (h .n) q) (going q (oneAt k (E.ReloadBack h i)))
+abbrev pub turning : Flavor → Haul → ℕ → Queue → BatchOut
+turning own h i q = pick (leb (h .n) i) (stopped own h (h .n) q) (oneAt q (E.ReloadBack h i))
 
 -- the exchange for a job was won: what to write (of a batch and pop the PREVIOUS job), and what is then in hand
 abbrev pub toWrite : InHand → ℕ → ℕ

@@ -2,9 +2,8 @@
 ghost use mathlib.Core.Path.{_≡_};
 ghost use Prim.Native.Nat.{_+_, min};
 ghost use lib.Dec.{leb};
-ghost use Rattle.op_batch.specs.Haul.{allAt, oneAt, reserveAt, swapAt, wantedOf, reserving as reservingOf, withJob, onward as onwardOf, withCount, firstOf, copying as copyingOf, mirrorOf, slotOf, swapping as swappingOf, landing as landingOf, isNothing, stopped as stoppedOf, turning as turningOf, toWrite, nextInHand, answerOf};
+ghost use Rattle.op_batch.specs.Haul.{allAt, oneAt, reserveAt, wantedOf, reserving as reservingOf, withJob, onward as onwardOf, withCount, firstOf, copying as copyingOf, mirrorOf, slotOf, swapping as swappingOf, landing as landingOf, isNothing, stopped as stoppedOf, turning as turningOf, toWrite, nextInHand, answerOf};
 use core::answer::Answer;
-use core::out::Out;
 use core::queue::Flavor;
 use core::queue::Queue;
 use core::stage::AllStage;
@@ -15,35 +14,35 @@ use core::stage::OneStage;
 use core::stage::OwnStage;
 use core::stage::ReserveStage;
 use core::stage::SourceStage;
-use core::stage::Stage;
 use core::stage::SwapStage;
 use core::stage::Wanted;
 use index::Index;
 use steal::Steal;
 
-// The stages of the parts of a batch.
-pub fn all_at(source: usize, at: AllStage) -> Stage
-    ensures { λ r. ⌜ r ≡ allAt source at ⌝ }
-{
-    Stage::BatchSource(source, SourceStage::All(at))
+// What a step of a batch leaves: the queue that it touched, with the next stage, on the source or on the own queue, or the answer.
+pub enum BatchOut {
+    Source(Queue, SourceStage),
+    Own(Queue, OwnStage),
+    Ended(Queue, Answer),
 }
 
-pub fn one_at(source: usize, at: OneStage) -> Stage
-    ensures { λ r. ⌜ r ≡ oneAt source at ⌝ }
+// On to a stage of a part of the batch.
+pub fn all_at(q: Queue, at: AllStage) -> BatchOut
+    ensures { λ r. ⌜ r ≡ allAt q at ⌝ }
 {
-    Stage::BatchSource(source, SourceStage::One(at))
+    BatchOut::Source(q, SourceStage::All(at))
 }
 
-pub fn reserve_at(source: usize, at: ReserveStage) -> Stage
-    ensures { λ r. ⌜ r ≡ reserveAt source at ⌝ }
+pub fn one_at(q: Queue, at: OneStage) -> BatchOut
+    ensures { λ r. ⌜ r ≡ oneAt q at ⌝ }
 {
-    Stage::BatchOwn(source, OwnStage::Reserve(at))
+    BatchOut::Source(q, SourceStage::One(at))
 }
 
-pub fn swap_at(source: usize, at: SwapStage) -> Stage
-    ensures { λ r. ⌜ r ≡ swapAt source at ⌝ }
+pub fn reserve_at(q: Queue, at: ReserveStage) -> BatchOut
+    ensures { λ r. ⌜ r ≡ reserveAt q at ⌝ }
 {
-    Stage::BatchOwn(source, OwnStage::Swap(at))
+    BatchOut::Own(q, OwnStage::Reserve(at))
 }
 
 fn smaller(a: u64, b: u64) -> u64
@@ -71,13 +70,13 @@ pub fn wanted(kind: BatchKind, d: u64, others: u64) -> u64
 }
 
 // Reserve room in the own queue, if there is anything to move.
-pub fn reserving(source: usize, wanted: Wanted) -> Stage
-    ensures { λ r. ⌜ r ≡ reservingOf source wanted ⌝ }
+pub fn reserving(wanted: Wanted) -> OwnStage
+    ensures { λ r. ⌜ r ≡ reservingOf wanted ⌝ }
 {
     if wanted.n == 0 {
-        return Stage::BatchOwn(source, OwnStage::LoadBack { wanted });
+        return OwnStage::LoadBack { wanted };
     }
-    reserve_at(source, ReserveStage::LoadBack { wanted })
+    OwnStage::Reserve(ReserveStage::LoadBack { wanted })
 }
 
 pub fn with_job(haul: Haul, job: u64) -> Haul
@@ -139,23 +138,23 @@ pub fn first(in_hand: InHand, f: Index) -> Index
 }
 
 // So many are copied: the next, or load the ring again.
-pub fn copying(source: usize, haul: Haul, i: u64) -> Stage
-    ensures { λ r. ⌜ r ≡ copyingOf source haul i ⌝ }
+pub fn copying(haul: Haul, i: u64) -> AllStage
+    ensures { λ r. ⌜ r ≡ copyingOf haul i ⌝ }
 {
     if haul.n <= i {
-        return all_at(source, AllStage::ReloadRing { haul });
+        return AllStage::ReloadRing { haul };
     }
-    all_at(source, AllStage::Copy { haul, i })
+    AllStage::Copy { haul, i }
 }
 
 // One more than so many are copied.
-pub fn copied(source: usize, haul: Haul, i: u64) -> Stage
-    ensures { λ r. ⌜ r ≡ copyingOf source haul (i + 1) ⌝ }
+pub fn copied(haul: Haul, i: u64) -> AllStage
+    ensures { λ r. ⌜ r ≡ copyingOf haul (i + 1) ⌝ }
 {
     if reached(i, haul.n) {
-        return all_at(source, AllStage::ReloadRing { haul });
+        return AllStage::ReloadRing { haul };
     }
-    all_at(source, AllStage::Copy { haul, i: i + 1 })
+    AllStage::Copy { haul, i: i + 1 }
 }
 
 // The i-th of n from the other end.
@@ -176,32 +175,32 @@ pub fn slot(own: Flavor, haul: Haul, i: u64) -> Index
 }
 
 // So many swaps are made: the next, or store the own back.
-fn swapping(source: usize, haul: Haul, x: u64) -> Stage
-    ensures { λ r. ⌜ r ≡ swappingOf source haul x ⌝ }
+fn swapping(haul: Haul, x: u64) -> OwnStage
+    ensures { λ r. ⌜ r ≡ swappingOf haul x ⌝ }
 {
     if haul.n / 2 <= x {
-        return Stage::BatchOwn(source, OwnStage::StoreBack { haul });
+        return OwnStage::StoreBack { haul };
     }
-    swap_at(source, SwapStage::ReadNear { haul, x })
+    OwnStage::Swap(SwapStage::ReadNear { haul, x })
 }
 
 // One more than so many swaps are made.
-pub fn swapped(source: usize, haul: Haul, x: u64) -> Stage
-    ensures { λ r. ⌜ r ≡ swappingOf source haul (x + 1) ⌝ }
+pub fn swapped(haul: Haul, x: u64) -> OwnStage
+    ensures { λ r. ⌜ r ≡ swappingOf haul (x + 1) ⌝ }
 {
     if reached(x, haul.n / 2) {
-        return Stage::BatchOwn(source, OwnStage::StoreBack { haul });
+        return OwnStage::StoreBack { haul };
     }
-    swap_at(source, SwapStage::ReadNear { haul, x: x + 1 })
+    OwnStage::Swap(SwapStage::ReadNear { haul, x: x + 1 })
 }
 
 // All is written: into a FIFO queue it is reversed.
-fn landing(own: Flavor, source: usize, haul: Haul) -> Stage
-    ensures { λ r. ⌜ r ≡ landingOf own source haul ⌝ }
+fn landing(own: Flavor, haul: Haul) -> OwnStage
+    ensures { λ r. ⌜ r ≡ landingOf own haul ⌝ }
 {
     match own {
-        Flavor::Fifo => swapping(source, haul, 0),
-        Flavor::Lifo => Stage::BatchOwn(source, OwnStage::StoreBack { haul }),
+        Flavor::Fifo => swapping(haul, 0),
+        Flavor::Lifo => OwnStage::StoreBack { haul },
     }
 }
 
@@ -215,34 +214,34 @@ fn is_nothing(in_hand: InHand) -> bool
 }
 
 // Taking one by one is over, with so many written.
-pub fn stopped(own: Flavor, source: usize, haul: Haul, i: u64, q: Queue) -> Out
-    ensures { λ r. ⌜ r ≡ stoppedOf own source haul i q ⌝ }
+pub fn stopped(own: Flavor, haul: Haul, i: u64, q: Queue) -> BatchOut
+    ensures { λ r. ⌜ r ≡ stoppedOf own haul i q ⌝ }
 {
     let in_hand = haul.in_hand;
     if is_nothing(in_hand) & (i == 0) {
-        return Out::ended(q, Answer::Stolen(Steal::Retry));
+        return BatchOut::Ended(q, Answer::Stolen(Steal::Retry));
     }
-    Out::going(q, landing(own, source, with_count(haul, i)))
+    BatchOut::Own(q, landing(own, with_count(haul, i)))
 }
 
 // So many are written: load the back again for the next, or stop after n.
-pub fn turning(own: Flavor, source: usize, haul: Haul, i: u64, q: Queue) -> Out
-    ensures { λ r. ⌜ r ≡ turningOf own source haul i q ⌝ }
+pub fn turning(own: Flavor, haul: Haul, i: u64, q: Queue) -> BatchOut
+    ensures { λ r. ⌜ r ≡ turningOf own haul i q ⌝ }
 {
     if haul.n <= i {
-        return stopped(own, source, haul, haul.n, q);
+        return stopped(own, haul, haul.n, q);
     }
-    Out::going(q, one_at(source, OneStage::ReloadBack { haul, i }))
+    one_at(q, OneStage::ReloadBack { haul, i })
 }
 
 // One more than so many are written.
-pub fn turned(own: Flavor, source: usize, haul: Haul, i: u64, q: Queue) -> Out
-    ensures { λ r. ⌜ r ≡ turningOf own source haul (i + 1) q ⌝ }
+pub fn turned(own: Flavor, haul: Haul, i: u64, q: Queue) -> BatchOut
+    ensures { λ r. ⌜ r ≡ turningOf own haul (i + 1) q ⌝ }
 {
     if reached(i, haul.n) {
-        return stopped(own, source, haul, haul.n, q);
+        return stopped(own, haul, haul.n, q);
     }
-    Out::going(q, one_at(source, OneStage::ReloadBack { haul, i: i + 1 }))
+    one_at(q, OneStage::ReloadBack { haul, i: i + 1 })
 }
 
 // The exchange for a job was won: what to write, of a batch and pop the previous job.

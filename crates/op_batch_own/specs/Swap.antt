@@ -6,10 +6,11 @@ use Rattle.index.specs.Index.{plusOf}
 use Rattle.cells.specs.Cells.{readOf, writtenOf}
 use Rattle.core.specs.declared.queue.Queue.{Queue}
 use Rattle.core.specs.declared.stage.Haul.{Haul}
+use Rattle.core.specs.declared.stage.OwnStage.{OwnStage}
+use Rattle.core.specs.declared.stage.OwnStage.the-variants.{Swap}
 use Rattle.core.specs.declared.stage.SwapStage.{SwapStage}
 use Rattle.core.specs.declared.stage.SwapStage.the-variants.{ReadNear, ReadFar, WriteNear, WriteFar}
-use Rattle.core.specs.Out.{Left, left, going}
-use Rattle.op_batch.specs.Haul.{swapAt, mirrorOf, swapping}
+use Rattle.op_batch.specs.Haul.{mirrorOf, swapping}
 
 -- the two cells of a swap, when x are made
 abbrev pub nearOf : Haul → ℕ → Index
@@ -18,9 +19,9 @@ nearOf h x = plusOf (h .b) x
 abbrev pub farOf : Haul → ℕ → Index
 farOf h x = plusOf (h .b) (mirrorOf (h .n) x)
 
--- k is the source
-abbrev pub swapOf : ℕ → SwapStage → Queue → List ℕ → Left
-swapOf k (ReadNear h x) q cells = left (going q (swapAt k (ReadFar h x (readOf cells (q .ring) (nearOf h x))))) cells
-swapOf k (ReadFar h x near) q cells = left (going q (swapAt k (WriteNear h x near (readOf cells (q .ring) (farOf h x))))) cells
-swapOf k (WriteNear h x near far) q cells = left (going q (swapAt k (WriteFar h x near))) (writtenOf cells (q .ring) (nearOf h x) far)
-swapOf k (WriteFar h x near) q cells = left (going q (swapping k h (x + 1))) (writtenOf cells (q .ring) (farOf h x) near)
+-- with the pool's cells; the queue stays as it is
+abbrev pub swapOf : SwapStage → Queue → List ℕ → OwnStage × List ℕ
+swapOf (ReadNear h x) q cells = (Swap (ReadFar h x (readOf cells (q .ring) (nearOf h x))), cells)
+swapOf (ReadFar h x near) q cells = (Swap (WriteNear h x near (readOf cells (q .ring) (farOf h x))), cells)
+swapOf (WriteNear h x near far) q cells = (Swap (WriteFar h x near), writtenOf cells (q .ring) (nearOf h x) far)
+swapOf (WriteFar h x near) q cells = (swapping h (x + 1), writtenOf cells (q .ring) (farOf h x) near)

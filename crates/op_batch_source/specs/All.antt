@@ -11,19 +11,17 @@ use Rattle.core.specs.declared.queue.Queue.{Queue}
 use Rattle.core.specs.declared.stage.AllStage.{AllStage}
 use Rattle.core.specs.declared.stage.AllStage.the-variants.{Copy, ReloadRing, Exchange}
 use Rattle.core.specs.declared.stage.OwnStage.the-variants.{WriteCopy, StoreBack}
-use Rattle.core.specs.declared.stage.Stage.the-variants.{BatchOwn}
 use Rattle.core.specs.declared.answer.Answer.the-variants.{Stolen}
-use Rattle.core.specs.declared.out.Out.{Out}
-use Rattle.core.specs.Out.{going, ended, withFront}
+use Rattle.core.specs.Out.{withFront}
+use Rattle.op_batch.specs.declared.BatchOut.{BatchOut}
+use Rattle.op_batch.specs.declared.BatchOut.the-variants.{Own, Ended}
 use Rattle.op_batch.specs.Haul.{allAt, firstOf}
 
--- k is the source
-abbrev pub allStepOf : ℕ → AllStage → Queue → List ℕ → Out
-allStepOf k (Copy h i) q cells =
-    going q (BatchOwn k (WriteCopy h i (readOf cells (h .ring) (plusOf (firstOf (h .«in_hand») (h .f)) i))))
-allStepOf k (ReloadRing h) q cells =
-    pick (eqb (q .ring .number .0) (h .ring .number .0)) (going q (allAt k (Exchange h))) (ended q (Stolen Retry))
-allStepOf k (Exchange h) q cells =
+abbrev pub allStepOf : AllStage → Queue → List ℕ → BatchOut
+allStepOf (Copy h i) q cells = Own q (WriteCopy h i (readOf cells (h .ring) (plusOf (firstOf (h .«in_hand») (h .f)) i)))
+allStepOf (ReloadRing h) q cells =
+    pick (eqb (q .ring .number .0) (h .ring .number .0)) (allAt q (Exchange h)) (Ended q (Stolen Retry))
+allStepOf (Exchange h) q cells =
     pick (sameB (q .front) (h .f))
-    (going (withFront q (plusOf (firstOf (h .«in_hand») (h .f)) (h .n))) (BatchOwn k (StoreBack h)))
-    (ended q (Stolen Retry))
+    (Own (withFront q (plusOf (firstOf (h .«in_hand») (h .f)) (h .n))) (StoreBack h))
+    (Ended q (Stolen Retry))

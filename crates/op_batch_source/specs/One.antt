@@ -14,21 +14,21 @@ use Rattle.core.specs.declared.stage.InHand.the-variants.{Job}
 use Rattle.core.specs.declared.stage.OneStage.{OneStage}
 use Rattle.core.specs.declared.stage.OneStage.the-variants.{ExchangeFirst, ReloadBack, Read, ReloadRing, Exchange}
 use Rattle.core.specs.declared.stage.OwnStage.the-variants.{WriteOne}
-use Rattle.core.specs.declared.stage.Stage.the-variants.{BatchOwn}
 use Rattle.core.specs.declared.answer.Answer.the-variants.{Stolen}
-use Rattle.core.specs.declared.out.Out.{Out}
-use Rattle.core.specs.Out.{going, ended, withFront}
+use Rattle.core.specs.Out.{withFront}
+use Rattle.op_batch.specs.declared.BatchOut.{BatchOut}
+use Rattle.op_batch.specs.declared.BatchOut.the-variants.{Own, Ended}
 use Rattle.op_batch.specs.Haul.{oneAt, onward, stopped, turning, toWrite, nextInHand}
 
--- k is the source; own is the flavour of the thread's own queue
-abbrev pub oneStepOf : Flavor → ℕ → OneStage → Queue → List ℕ → Out
-oneStepOf own k (ExchangeFirst h job) q cells =
-    pick (sameB (q .front) (h .f)) (turning own k (onward h (Job job)) 0 (withFront q (plusOf (h .f) 1))) (ended q (Stolen Retry))
-oneStepOf own k (ReloadBack h i) q cells = pick (emptyB (q .back) (h .f)) (stopped own k h i q) (going q (oneAt k (Read h i)))
-oneStepOf own k (Read h i) q cells = going q (oneAt k (ReloadRing h i (readOf cells (h .ring) (h .f))))
-oneStepOf own k (ReloadRing h i job) q cells =
-    pick (eqb (q .ring .number .0) (h .ring .number .0)) (going q (oneAt k (Exchange h i job))) (stopped own k h i q)
-oneStepOf own k (Exchange h i job) q cells =
+-- own is the flavour of the thread's own queue
+abbrev pub oneStepOf : Flavor → OneStage → Queue → List ℕ → BatchOut
+oneStepOf own (ExchangeFirst h job) q cells =
+    pick (sameB (q .front) (h .f)) (turning own (onward h (Job job)) 0 (withFront q (plusOf (h .f) 1))) (Ended q (Stolen Retry))
+oneStepOf own (ReloadBack h i) q cells = pick (emptyB (q .back) (h .f)) (stopped own h i q) (oneAt q (Read h i))
+oneStepOf own (Read h i) q cells = oneAt q (ReloadRing h i (readOf cells (h .ring) (h .f)))
+oneStepOf own (ReloadRing h i job) q cells =
+    pick (eqb (q .ring .number .0) (h .ring .number .0)) (oneAt q (Exchange h i job)) (stopped own h i q)
+oneStepOf own (Exchange h i job) q cells =
     pick (sameB (q .front) (h .f))
-    (going (withFront q (plusOf (h .f) 1)) (BatchOwn k (WriteOne (onward h (nextInHand (h .«in_hand») job)) i (toWrite (h .«in_hand») job))))
-    (stopped own k h i q)
+    (Own (withFront q (plusOf (h .f) 1)) (WriteOne (onward h (nextInHand (h .«in_hand») job)) i (toWrite (h .«in_hand») job)))
+    (stopped own h i q)

@@ -3,41 +3,37 @@ ghost use mathlib.Core.Path.{_≡_};
 ghost use Rattle.op_batch_source.specs.All.{allStepOf};
 use cells::read;
 use core::answer::Answer;
-use core::out::Out;
 use core::queue::Queue;
 use core::stage::AllStage;
 use core::stage::OwnStage;
-use core::stage::Stage;
+use op_batch::BatchOut;
 use op_batch::all_at;
 use op_batch::first;
 use steal::Steal;
 
-pub fn all_step(source: usize, at: AllStage, q: Queue, pool: &[u64]) -> Out
-    ensures { λ r. ⌜ r ≡ allStepOf source at q (now (pool .entry)) ⌝ }
+pub fn all_step(at: AllStage, q: Queue, pool: &[u64]) -> BatchOut
+    ensures { λ r. ⌜ r ≡ allStepOf at q (now (pool .entry)) ⌝ }
 {
     match at {
         AllStage::Copy { haul, i } => {
             let in_hand = haul.in_hand;
             let job = read(pool, haul.ring, first(in_hand, haul.f).plus(i));
-            Out::going(
-                q,
-                Stage::BatchOwn(source, OwnStage::WriteCopy { haul, i, job }),
-            )
+            BatchOut::Own(q, OwnStage::WriteCopy { haul, i, job })
         }
         AllStage::ReloadRing { haul } => {
             if q.ring.number.0 == haul.ring.number.0 {
-                return Out::going(q, all_at(source, AllStage::Exchange { haul }));
+                return all_at(q, AllStage::Exchange { haul });
             }
-            Out::ended(q, Answer::Stolen(Steal::Retry))
+            BatchOut::Ended(q, Answer::Stolen(Steal::Retry))
         }
         AllStage::Exchange { haul } => {
             if q.front.is_same(haul.f) {
                 let in_hand = haul.in_hand;
                 let mut r = q;
                 r.front = first(in_hand, haul.f).plus(haul.n);
-                return Out::going(r, Stage::BatchOwn(source, OwnStage::StoreBack { haul }));
+                return BatchOut::Own(r, OwnStage::StoreBack { haul });
             }
-            Out::ended(q, Answer::Stolen(Steal::Retry))
+            BatchOut::Ended(q, Answer::Stolen(Steal::Retry))
         }
     }
 }

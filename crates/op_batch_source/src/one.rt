@@ -3,13 +3,12 @@ ghost use mathlib.Core.Path.{_≡_};
 ghost use Rattle.op_batch_source.specs.One.{oneStepOf};
 use cells::read;
 use core::answer::Answer;
-use core::out::Out;
 use core::queue::Flavor;
 use core::queue::Queue;
 use core::stage::InHand;
 use core::stage::OneStage;
 use core::stage::OwnStage;
-use core::stage::Stage;
+use op_batch::BatchOut;
 use op_batch::next_in_hand;
 use op_batch::one_at;
 use op_batch::onward;
@@ -18,33 +17,33 @@ use op_batch::to_write;
 use op_batch::turning;
 use steal::Steal;
 
-pub fn one_step(own: Flavor, source: usize, at: OneStage, q: Queue, pool: &[u64]) -> Out
-    ensures { λ r. ⌜ r ≡ oneStepOf own source at q (now (pool .entry)) ⌝ }
+pub fn one_step(own: Flavor, at: OneStage, q: Queue, pool: &[u64]) -> BatchOut
+    ensures { λ r. ⌜ r ≡ oneStepOf own at q (now (pool .entry)) ⌝ }
 {
     match at {
         OneStage::ExchangeFirst { haul, job } => {
             if q.front.is_same(haul.f) {
                 let mut r = q;
                 r.front = haul.f.plus(1);
-                return turning(own, source, onward(haul, InHand::Job(job)), 0, r);
+                return turning(own, onward(haul, InHand::Job(job)), 0, r);
             }
-            Out::ended(q, Answer::Stolen(Steal::Retry))
+            BatchOut::Ended(q, Answer::Stolen(Steal::Retry))
         }
         OneStage::ReloadBack { haul, i } => {
             if q.back.is_empty(haul.f) {
-                return stopped(own, source, haul, i, q);
+                return stopped(own, haul, i, q);
             }
-            Out::going(q, one_at(source, OneStage::Read { haul, i }))
+            one_at(q, OneStage::Read { haul, i })
         }
         OneStage::Read { haul, i } => {
             let job = read(pool, haul.ring, haul.f);
-            Out::going(q, one_at(source, OneStage::ReloadRing { haul, i, job }))
+            one_at(q, OneStage::ReloadRing { haul, i, job })
         }
         OneStage::ReloadRing { haul, i, job } => {
             if q.ring.number.0 == haul.ring.number.0 {
-                return Out::going(q, one_at(source, OneStage::Exchange { haul, i, job }));
+                return one_at(q, OneStage::Exchange { haul, i, job });
             }
-            stopped(own, source, haul, i, q)
+            stopped(own, haul, i, q)
         }
         OneStage::Exchange { haul, i, job } => {
             if q.front.is_same(haul.f) {
@@ -53,19 +52,16 @@ pub fn one_step(own: Flavor, source: usize, at: OneStage, q: Queue, pool: &[u64]
                 r.front = haul.f.plus(1);
                 let next = onward(haul, next_in_hand(in_hand, job));
                 let written = to_write(in_hand, job);
-                return Out::going(
+                return BatchOut::Own(
                     r,
-                    Stage::BatchOwn(
-                        source,
-                        OwnStage::WriteOne {
-                            haul: next,
-                            i,
-                            job: written,
-                        },
-                    ),
+                    OwnStage::WriteOne {
+                        haul: next,
+                        i,
+                        job: written,
+                    },
                 );
             }
-            stopped(own, source, haul, i, q)
+            stopped(own, haul, i, q)
         }
     }
 }

@@ -13,22 +13,21 @@ use Rattle.core.specs.declared.stage.FifoPopStage.{FifoPopStage}
 use Rattle.core.specs.declared.stage.FifoPopStage.the-variants.{LoadBack, LoadFront, FetchAdd, RestoreFront, Read}
 use Rattle.core.specs.declared.stage.PopStage.the-variants.{Fifo}
 use Rattle.core.specs.declared.stage.Popper.{Popper}
-use Rattle.core.specs.declared.stage.Stage.{Stage}
-use Rattle.core.specs.declared.stage.Stage.the-variants.{Pop}
-use Rattle.core.specs.declared.out.Out.{Out}
-use Rattle.core.specs.Out.{going, ended, withFront}
+use Rattle.core.specs.Out.{withFront}
+use Rattle.op_pop.specs.declared.PopOut.{PopOut}
+use Rattle.op_pop.specs.declared.PopOut.the-variants.{Going, Ended}
 use Rattle.op_pop.specs.Shrink.{nothingFor, reading}
 
-abbrev pub fifo : Popper → FifoPopStage → Stage
-fifo w at = Pop w (Fifo at)
+-- on to a stage of the FIFO pop
+abbrev pub fifo : Queue → FifoPopStage → PopOut
+fifo q at = Going q (Fifo at)
 
-abbrev pub fifoPopOf : Popper → FifoPopStage → Queue → List ℕ → Out
-fifoPopOf w LoadBack q cells = going q (fifo w (LoadFront (q .back)))
-fifoPopOf w (LoadFront b) q cells =
-    pick (emptyB b (q .front)) (ended q (nothingFor w)) (going q (fifo w (FetchAdd b (lengthOf b (q .front)))))
+abbrev pub fifoPopOf : Popper → FifoPopStage → Queue → List ℕ → PopOut
+fifoPopOf w LoadBack q cells = fifo q (LoadFront (q .back))
+fifoPopOf w (LoadFront b) q cells = pick (emptyB b (q .front)) (Ended q (nothingFor w)) (fifo q (FetchAdd b (lengthOf b (q .front))))
 fifoPopOf w (FetchAdd b seen) q cells =
-    going (withFront q (plusOf (q .front) 1))
-    (pick (behindB b (plusOf (q .front) 1)) (fifo w (RestoreFront (q .front))) (fifo w (Read (q .front) seen)))
-fifoPopOf w (RestoreFront f) q cells = ended (withFront q f) (nothingFor w)
+    fifo (withFront q (plusOf (q .front) 1))
+    (pick (behindB b (plusOf (q .front) 1)) (RestoreFront (q .front)) (Read (q .front) seen))
+fifoPopOf w (RestoreFront f) q cells = Ended (withFront q f) (nothingFor w)
 fifoPopOf w (Read f seen) q cells =
     reading (ltb smallest (q .ring .capacity) && leb seen (q .ring .capacity / 4)) w (readOf cells (q .ring) f) q

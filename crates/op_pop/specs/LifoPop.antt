@@ -15,30 +15,30 @@ use Rattle.core.specs.declared.stage.LifoPopStage.{LifoPopStage}
 use Rattle.core.specs.declared.stage.LifoPopStage.the-variants.{LoadBack, LoadFront, StoreBack, ReloadFront, RestoreBack, ReadLast, Exchange, RestoreBackWon, Read}
 use Rattle.core.specs.declared.stage.PopStage.the-variants.{Lifo}
 use Rattle.core.specs.declared.stage.Popper.{Popper}
-use Rattle.core.specs.declared.stage.Stage.{Stage}
-use Rattle.core.specs.declared.stage.Stage.the-variants.{Pop}
-use Rattle.core.specs.declared.out.Out.{Out}
-use Rattle.core.specs.Out.{going, ended, withFront, withBack}
+use Rattle.core.specs.Out.{withFront, withBack}
+use Rattle.op_pop.specs.declared.PopOut.{PopOut}
+use Rattle.op_pop.specs.declared.PopOut.the-variants.{Going, Ended}
 use Rattle.op_pop.specs.Shrink.{nothingFor, jobFor, reading}
 
-abbrev pub lifo : Popper → LifoPopStage → Stage
-lifo w at = Pop w (Lifo at)
+-- on to a stage of the LIFO pop
+abbrev pub lifo : Queue → LifoPopStage → PopOut
+lifo q at = Going q (Lifo at)
 
 -- d, for the back b - 1 and the front f: below 0, 0, or above
-abbrev pub decided : Popper → Index → Index → Stage
-decided w b f =
-    pick (behindB (minusOf b 1) f) (lifo w (RestoreBack b))
-    (pick (emptyB (minusOf b 1) f) (lifo w (ReadLast b f)) (lifo w (Read b (lengthOf (minusOf b 1) f))))
+abbrev pub decided : Index → Index → LifoPopStage
+decided b f =
+    pick (behindB (minusOf b 1) f) (RestoreBack b)
+    (pick (emptyB (minusOf b 1) f) (ReadLast b f) (Read b (lengthOf (minusOf b 1) f)))
 
-abbrev pub lifoPopOf : Popper → LifoPopStage → Queue → List ℕ → Out
-lifoPopOf w LoadBack q cells = going q (lifo w (LoadFront (q .back)))
-lifoPopOf w (LoadFront b) q cells = pick (emptyB b (q .front)) (ended q (nothingFor w)) (going q (lifo w (StoreBack b)))
-lifoPopOf w (StoreBack b) q cells = going (withBack q (minusOf b 1)) (lifo w (ReloadFront b))
-lifoPopOf w (ReloadFront b) q cells = going q (decided w b (q .front))
-lifoPopOf w (RestoreBack b) q cells = ended (withBack q b) (nothingFor w)
-lifoPopOf w (ReadLast b f) q cells = going q (lifo w (Exchange b f (readOf cells (q .ring) (minusOf b 1))))
+abbrev pub lifoPopOf : Popper → LifoPopStage → Queue → List ℕ → PopOut
+lifoPopOf w LoadBack q cells = lifo q (LoadFront (q .back))
+lifoPopOf w (LoadFront b) q cells = pick (emptyB b (q .front)) (Ended q (nothingFor w)) (lifo q (StoreBack b))
+lifoPopOf w (StoreBack b) q cells = lifo (withBack q (minusOf b 1)) (ReloadFront b)
+lifoPopOf w (ReloadFront b) q cells = lifo q (decided b (q .front))
+lifoPopOf w (RestoreBack b) q cells = Ended (withBack q b) (nothingFor w)
+lifoPopOf w (ReadLast b f) q cells = lifo q (Exchange b f (readOf cells (q .ring) (minusOf b 1)))
 lifoPopOf w (Exchange b f job) q cells =
-    pick (sameB (q .front) f) (going (withFront q (plusOf f 1)) (lifo w (RestoreBackWon b job))) (going q (lifo w (RestoreBack b)))
-lifoPopOf w (RestoreBackWon b job) q cells = ended (withBack q b) (jobFor w job)
+    pick (sameB (q .front) f) (lifo (withFront q (plusOf f 1)) (RestoreBackWon b job)) (lifo q (RestoreBack b))
+lifoPopOf w (RestoreBackWon b job) q cells = Ended (withBack q b) (jobFor w job)
 lifoPopOf w (Read b left) q cells =
     reading (ltb smallest (q .ring .capacity) && ltb left (q .ring .capacity / 4)) w (readOf cells (q .ring) (minusOf b 1)) q

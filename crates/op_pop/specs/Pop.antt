@@ -6,12 +6,12 @@ use Rattle.core.specs.declared.stage.PopStage.{PopStage}
 use Rattle.core.specs.declared.stage.PopStage.the-variants.{Fifo, Lifo, Shrink}
 use Rattle.core.specs.declared.stage.Popper.{Popper}
 use Rattle.core.specs.declared.out.Claim.{Claim}
-use Rattle.core.specs.Out.{Left, left}
+use Rattle.op_pop.specs.declared.PopOut.{PopOut}
 use Rattle.op_pop.specs.Shrink.{shrinkOf}
 use Rattle.op_pop.specs.FifoPop.{fifoPopOf}
 use Rattle.op_pop.specs.LifoPop.{lifoPopOf}
 
-abbrev pub popOf : Popper → PopStage → Queue → Claim → List ℕ → Left
-popOf w (Fifo at) q g cells = left (fifoPopOf w at q cells) cells
-popOf w (Lifo at) q g cells = left (lifoPopOf w at q cells) cells
+abbrev pub popOf : Popper → PopStage → Queue → Claim → List ℕ → PopOut × List ℕ
+popOf w (Fifo at) q g cells = (fifoPopOf w at q cells, cells)
+popOf w (Lifo at) q g cells = (lifoPopOf w at q cells, cells)
 popOf w (Shrink job at) q g cells = shrinkOf w job at q g cells

@@ -1,16 +1,14 @@
 // What both pops share: how they answer, and the shrinking.
 ghost use mathlib.Core.Path.{_≡_};
-ghost use Rattle.core.specs.Out.{left};
 ghost use Rattle.op_pop.specs.Shrink.{nothingFor, jobFor, reading as readingOf, shrunk as shrunkOf, shrinkOf};
+use crate::PopOut;
 use core::answer::Answer;
 use core::out::Claim;
-use core::out::Out;
 use core::out::Resized;
 use core::queue::Queue;
 use core::stage::PopStage;
 use core::stage::Popper;
 use core::stage::ResizeStage;
-use core::stage::Stage;
 use op_resize::resize_step;
 use ring::Ring;
 use steal::Steal;
@@ -36,33 +34,30 @@ pub fn job_for(popper: Popper, job: u64) -> Answer
 }
 
 // The job is read: shrink to half first where few are left, or answer.
-pub fn reading(few: bool, popper: Popper, job: u64, q: Queue) -> Out
+pub fn reading(few: bool, popper: Popper, job: u64, q: Queue) -> PopOut
     ensures { λ r. ⌜ r ≡ readingOf few popper job q ⌝ }
 {
     if few {
         let capacity = Ring::half(q.ring.capacity);
-        return Out::going(
+        return PopOut::Going(
             q,
-            Stage::Pop(
-                popper,
-                PopStage::Shrink {
-                    job,
-                    at: ResizeStage::LoadBack { capacity },
-                },
-            ),
+            PopStage::Shrink {
+                job,
+                at: ResizeStage::LoadBack { capacity },
+            },
         );
     }
-    Out::ended(q, job_for(popper, job))
+    PopOut::Ended(q, job_for(popper, job))
 }
 
 // What a pop does with a step of its resize. With no ring to be had it skips the shrink.
-fn shrunk(popper: Popper, job: u64, q: Queue, resized: Resized) -> Out
+fn shrunk(popper: Popper, job: u64, q: Queue, resized: Resized) -> PopOut
     ensures { λ r. ⌜ r ≡ shrunkOf popper job q resized ⌝ }
 {
     match resized {
-        Resized::Stage(at) => Out::going(q, Stage::Pop(popper, PopStage::Shrink { job, at })),
-        Resized::NoRing => Out::ended(q, job_for(popper, job)),
-        Resized::Done(r) => Out::ended(r, job_for(popper, job)),
+        Resized::Stage(at) => PopOut::Going(q, PopStage::Shrink { job, at }),
+        Resized::NoRing => PopOut::Ended(q, job_for(popper, job)),
+        Resized::Done(r) => PopOut::Ended(r, job_for(popper, job)),
     }
 }
 
@@ -74,8 +69,8 @@ pub fn shrink_step(
     q: Queue,
     claim: Claim,
     pool: &mut [u64],
-) -> Out
-    ensures { λ r. ⌜ left r (now (pool .exit)) ≡ shrinkOf popper job at q claim (now (pool .entry)) ⌝ }
+) -> PopOut
+    ensures { λ r. ⌜ (r, now (pool .exit)) ≡ shrinkOf popper job at q claim (now (pool .entry)) ⌝ }
 {
     shrunk(popper, job, q, resize_step(at, q, claim, pool))
 }

@@ -12,32 +12,31 @@ use Rattle.core.specs.declared.queue.Queue.{Queue}
 use Rattle.core.specs.declared.stage.ResizeStage.the-variants as Z
 use Rattle.core.specs.declared.stage.PushStage.{PushStage}
 use Rattle.core.specs.declared.stage.PushStage.the-variants.{LoadBack, LoadFront, Resize, Write, StoreBack}
-use Rattle.core.specs.declared.stage.Stage.the-variants.{Push}
 use Rattle.core.specs.declared.answer.Answer.the-variants as A
 use Rattle.core.specs.declared.answer.Shortage.the-variants.{TooLarge, NoRing}
 use Rattle.core.specs.declared.out.Claim.{Claim}
 use Rattle.core.specs.declared.out.Resized.{Resized}
 use Rattle.core.specs.declared.out.Resized.the-variants as R
-use Rattle.core.specs.declared.out.Out.{Out}
-use Rattle.core.specs.Out.{Left, left, going, ended, withBack}
+use Rattle.core.specs.Out.{withBack}
 use Rattle.op_resize.specs.Resize.{resizeOf}
+use Rattle.op_push.specs.declared.PushOut.{PushOut}
+use Rattle.op_push.specs.declared.PushOut.the-variants.{Going, Ended}
 
-abbrev pub growing : ℕ → Index → Queue → Capacity → Out
-growing job b q (C.Of c) = going q (Push job (Resize b (Z.LoadBack c)))
-growing job b q C.TooLarge = ended q (A.GaveUp TooLarge)
+abbrev pub growing : Index → Queue → Capacity → PushOut
+growing b q (C.Of c) = Going q (Resize b (Z.LoadBack c))
+growing b q C.TooLarge = Ended q (A.GaveUp TooLarge)
 
 -- what a push does with a step of its resize
-abbrev pub grown : ℕ → Index → Queue → Resized → Out
-grown job b q (R.Stage z) = going q (Push job (Resize b z))
-grown job b q R.NoRing = ended q (A.GaveUp NoRing)
-grown job b q (R.Done r) = going r (Push job (Write b))
+abbrev pub grown : Index → Queue → Resized → PushOut
+grown b q (R.Stage z) = Going q (Resize b z)
+grown b q R.NoRing = Ended q (A.GaveUp NoRing)
+grown b q (R.Done r) = Going r (Write b)
 
-abbrev pub pushOf : ℕ → PushStage → Queue → Claim → List ℕ → Left
-pushOf job LoadBack q g cells = left (going q (Push job (LoadFront (q .back)))) cells
+-- with the pool's cells
+abbrev pub pushOf : ℕ → PushStage → Queue → Claim → List ℕ → PushOut × List ℕ
+pushOf job LoadBack q g cells = (Going q (LoadFront (q .back)), cells)
 pushOf job (LoadFront b) q g cells =
-    left
-    (pick (fullB b (q .front) (q .ring .capacity)) (growing job b q (twiceOf (q .ring .capacity))) (going q (Push job (Write b))))
-    cells
-pushOf job (Resize b z) q g cells = left (grown job b q (resizeOf z q g cells .resized)) (resizeOf z q g cells .cells)
-pushOf job (Write b) q g cells = left (going q (Push job (StoreBack b))) (writtenOf cells (q .ring) b job)
-pushOf job (StoreBack b) q g cells = left (ended (withBack q (plusOf b 1)) A.Done) cells
+    (pick (fullB b (q .front) (q .ring .capacity)) (growing b q (twiceOf (q .ring .capacity))) (Going q (Write b)), cells)
+pushOf job (Resize b z) q g cells = (grown b q (resizeOf z q g cells .resized), resizeOf z q g cells .cells)
+pushOf job (Write b) q g cells = (Going q (StoreBack b), writtenOf cells (q .ring) b job)
+pushOf job (StoreBack b) q g cells = (Ended (withBack q (plusOf b 1)) A.Done, cells)

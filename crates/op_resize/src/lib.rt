@@ -1,13 +1,15 @@
 // A resize of a queue, a step at a time.
 ghost use mathlib.Core.Path.{_≡_};
-ghost use Rattle.op_resize.specs.Resize.{copying as copyingOf, claimed as claimedOf, resizing, resizeOf};
+ghost use Rattle.op_resize.specs.Resize.{copying as copyingOf, foundOf, claimed as claimedOf, resizing, resizeOf};
 use cells::copy;
 use core::out::Claim;
 use core::out::Resized;
 use core::queue::Queue;
 use core::stage::ResizeStage;
 use index::Index;
+use ring::PlaceNumber;
 use ring::Ring;
+use ring::RingNumber;
 
 // The next index is i: copy it, or swap where it is the back just loaded.
 fn copying(b: Index, i: Index, ring: Ring) -> Resized
@@ -17,6 +19,21 @@ fn copying(b: Index, i: Index, ring: Ring) -> Resized
         return Resized::Stage(ResizeStage::Swap { ring });
     }
     Resized::Stage(ResizeStage::Copy { b, i, ring })
+}
+
+// What a claim finds, where this is the lowest-numbered free place, or the place count with none free; the last number is never given.
+pub fn found(place: usize, places: usize, number: RingNumber) -> Claim
+    ensures { λ r. ⌜ r ≡ foundOf place places number ⌝ }
+{
+    if place < places {
+        if number.0 < u64::MAX {
+            return Claim::Got {
+                number,
+                place: PlaceNumber(place),
+            };
+        }
+    }
+    Claim::Nothing
 }
 
 fn claimed(capacity: usize, b: Index, q: Queue, claim: Claim) -> Resized

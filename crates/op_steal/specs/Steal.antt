@@ -10,18 +10,17 @@ use Rattle.steal.specs.declared.Steal.the-variants.{Empty, Success, Retry}
 use Rattle.core.specs.declared.queue.Queue.{Queue}
 use Rattle.core.specs.declared.stage.StealStage.{StealStage}
 use Rattle.core.specs.declared.stage.StealStage.the-variants.{LoadFront, LoadBack, LoadRing, Read, ReloadRing, Exchange}
-use Rattle.core.specs.declared.stage.Stage.the-variants.{Steal}
 use Rattle.core.specs.declared.answer.Answer.the-variants.{Stolen}
-use Rattle.core.specs.declared.out.Out.{Out}
-use Rattle.core.specs.Out.{going, ended, withFront}
+use Rattle.core.specs.Out.{withFront}
+use Rattle.op_steal.specs.declared.StealOut.{StealOut}
+use Rattle.op_steal.specs.declared.StealOut.the-variants.{Going, Ended}
 
--- k is the queue stolen from
-abbrev pub stealOf : ℕ → StealStage → Queue → List ℕ → Out
-stealOf k LoadFront q cells = going q (Steal k (LoadBack (q .front)))
-stealOf k (LoadBack f) q cells = pick (emptyB (q .back) f) (ended q (Stolen Empty)) (going q (Steal k (LoadRing f)))
-stealOf k (LoadRing f) q cells = going q (Steal k (Read f (q .ring)))
-stealOf k (Read f ring) q cells = going q (Steal k (ReloadRing f ring (readOf cells ring f)))
-stealOf k (ReloadRing f ring job) q cells =
-    pick (eqb (q .ring .number .0) (ring .number .0)) (going q (Steal k (Exchange f ring job))) (ended q (Stolen Retry))
-stealOf k (Exchange f ring job) q cells =
-    pick (sameB (q .front) f) (ended (withFront q (plusOf f 1)) (Stolen (Success job))) (ended q (Stolen Retry))
+abbrev pub stealOf : StealStage → Queue → List ℕ → StealOut
+stealOf LoadFront q cells = Going q (LoadBack (q .front))
+stealOf (LoadBack f) q cells = pick (emptyB (q .back) f) (Ended q (Stolen Empty)) (Going q (LoadRing f))
+stealOf (LoadRing f) q cells = Going q (Read f (q .ring))
+stealOf (Read f ring) q cells = Going q (ReloadRing f ring (readOf cells ring f))
+stealOf (ReloadRing f ring job) q cells =
+    pick (eqb (q .ring .number .0) (ring .number .0)) (Going q (Exchange f ring job)) (Ended q (Stolen Retry))
+stealOf (Exchange f ring job) q cells =
+    pick (sameB (q .front) f) (Ended (withFront q (plusOf f 1)) (Stolen (Success job))) (Ended q (Stolen Retry))

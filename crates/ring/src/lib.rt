@@ -3,6 +3,7 @@ ghost use mathlib.Core.Path.{_≡_};
 ghost use Prim.Native.Nat.{_+_, _/_};
 ghost use lib.Dec.{leb};
 ghost use Rattle.ring.specs.Capacity.{allowedB, twiceOf, holdingOf};
+ghost use Rattle.ring.specs.Number.{nextNumber};
 
 // Counts up, and is never used again.
 pub struct RingNumber(pub u64);
@@ -20,6 +21,15 @@ pub struct Ring {
 pub enum Capacity {
     Of(usize),
     TooLarge,
+}
+
+impl RingNumber {
+    // The number to give after this one.
+    pub fn next(self) -> RingNumber
+        ensures { λ r. ⌜ r ≡ nextNumber self ⌝ }
+    {
+        RingNumber(std::num::wrapping_add_u64(self.0, 1))
+    }
 }
 
 impl Ring {

@@ -11,14 +11,11 @@ reached-requires c κs = search needs
 returns : tie.Need-returns
 returns c = rw (← c .before .reached .ensures, c .if1 .taken)
 
-add-t5 : tie.Need-add-t5
-add-t5 c = omega (arith, leb-false, rw (c .before .reached .ensures) at (c .if1 .left))
-
-swap-at-requires : tie.Need-swap-at-requires
-swap-at-requires c κs = search needs
+add-t4 : tie.Need-add-t4
+add-t4 c = omega (arith, leb-false, rw (c .before .reached .ensures) at (c .if1 .left))
 
 returns-2 : tie.Need-returns-2
-returns-2 c = rw (c .swap-at .ensures, ← c .before .before .reached .ensures, c .before .if1 .left)
+returns-2 c = rw (← c .before .reached .ensures, c .if1 .left)
 
 pub swapped-spec : {M : Type 1} → statement M
-swapped-spec = tie.close (tie.spec reached-requires returns add-t5 swap-at-requires returns-2)
+swapped-spec = tie.close (tie.spec reached-requires returns add-t4 returns-2)

@@ -1,17 +1,13 @@
 -- Each branch of `swapping` is that of `swappingOf`, by what its calls ensure.
 use borrow.Author.Tests.{le-leb, lt-leb}
-use borrow.Author.Needs.{needs}
 use Rattle.op_batch.proofs.swapping.Statement.{statement}
 use Rattle.op_batch.proofs.swapping.Tie as tie
 
 returns : tie.Need-returns
 returns c = rw (le-leb _ _ (c .if1 .taken))
 
-swap-at-requires : tie.Need-swap-at-requires
-swap-at-requires c κs = search needs
-
 returns-2 : tie.Need-returns-2
-returns-2 c = rw (c .swap-at .ensures, lt-leb _ _ (c .before .if1 .left))
+returns-2 c = rw (lt-leb _ _ (c .if1 .left))
 
 pub swapping-spec : {M : Type 1} → statement M
-swapping-spec = tie.close (tie.spec returns swap-at-requires returns-2)
+swapping-spec = tie.close (tie.spec returns returns-2)

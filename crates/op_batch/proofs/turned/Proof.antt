@@ -14,26 +14,15 @@ stopped-requires c κs = search needs
 returns : tie.Need-returns
 returns c = rw (c .stopped .ensures, ← c .before .before .reached .ensures, c .before .if1 .taken)
 
-add-t8 : tie.Need-add-t8
-add-t8 c = omega (arith, leb-false, rw (c .before .reached .ensures) at (c .if1 .left))
+add-t6 : tie.Need-add-t6
+add-t6 c = omega (arith, leb-false, rw (c .before .reached .ensures) at (c .if1 .left))
 
 one-at-requires : tie.Need-one-at-requires
 one-at-requires c κs = search needs
 
-going-requires : tie.Need-going-requires
-going-requires c κs = search needs
-
 returns-2 : tie.Need-returns-2
-returns-2 c = rw (c .going .ensures, c .before .one-at .ensures, ← c .before .before .before .reached .ensures, c .before .before .if1 .left)
+returns-2 c = rw (c .one-at .ensures, ← c .before .before .reached .ensures, c .before .if1 .left)
 
 pub turned-spec : {M : Type 1} → statement M
 turned-spec =
-    tie.close
-    (tie.spec
-    reached-requires
-    stopped-requires
-    returns
-    add-t8
-    one-at-requires
-    going-requires
-    returns-2)
+    tie.close (tie.spec reached-requires stopped-requires returns add-t6 one-at-requires returns-2)

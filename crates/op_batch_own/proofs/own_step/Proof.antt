@@ -12,9 +12,6 @@ reserve-step-requires c κs = search needs
 enum-known-at-2 : tie.Need-enum-known-at-2
 enum-known-at-2 c = search needs
 
-going-requires : tie.Need-going-requires
-going-requires c κs = search needs
-
 enum-known-at-3 : tie.Need-enum-known-at-3
 enum-known-at-3 c = search needs
 
@@ -27,8 +24,8 @@ write-requires c κs = search needs
 copied-requires : tie.Need-copied-requires
 copied-requires c κs = search needs
 
-going-requires-2 : tie.Need-going-requires-2
-going-requires-2 c κs = search needs
+all-at-requires : tie.Need-all-at-requires
+all-at-requires c κs = search needs
 
 enum-known-at-4 : tie.Need-enum-known-at-4
 enum-known-at-4 c = search needs
@@ -57,9 +54,6 @@ plus-requires-2 c κs = search needs
 answer-requires : tie.Need-answer-requires
 answer-requires c κs = search needs
 
-ended-requires : tie.Need-ended-requires
-ended-requires c κs = search needs
-
 same-length : tie.Need-same-length
 same-length c = search needs
 
@@ -67,13 +61,13 @@ returns : tie.Need-returns
 returns c = rw (c .before .before .before .before .before .at .given .1, c .before .before .reserve-step .ensures)
 
 returns-2 : tie.Need-returns-2
-returns-2 c = rw (c .before .before .before .at2 .given .1, c .going .ensures)
+returns-2 c = rw (c .before .before .at2 .given .1)
 
 same-length-2 : tie.Need-same-length-2
 same-length-2 c = search needs
 
 returns-3 : tie.Need-returns-3
-returns-3 c = rw (c .before .before .before .before .before .before .before .before .at3 .given .1, c .going2 .ensures, c .before .copied .ensures, c .before .before .before .before .write .ensures, c .before .before .before .before .before .slot .ensures)
+returns-3 c = rw (c .before .before .before .before .before .before .before .before .at3 .given .1, c .all-at .ensures, c .before .copied .ensures, c .before .before .before .before .write .ensures, c .before .before .before .before .before .slot .ensures)
 
 same-length-3 : tie.Need-same-length-3
 same-length-3 c = search needs
@@ -85,10 +79,10 @@ same-length-4 : tie.Need-same-length-4
 same-length-4 c = search needs
 
 returns-5 : tie.Need-returns-5
-returns-5 c = rw (c .before .before .before .before .before .at5 .given .1, c .before .before .swap-step .ensures)
+returns-5 c = rw (c .before .before .before .before .before .at5 .given .1, ← c .before .before .swap-step .ensures)
 
 returns-6 : tie.Need-returns-6
-returns-6 c = rw (c .before .before .before .before .at6 .given .1, c .ended .ensures, c .before .answer .ensures, c .before .before .plus2 .ensures)
+returns-6 c = rw (c .before .before .before .at6 .given .1, c .answer .ensures, c .before .plus2 .ensures)
 
 pub own-step-spec : {M : Type 1} → statement M
 own-step-spec =
@@ -97,12 +91,11 @@ own-step-spec =
     enum-known-at
     reserve-step-requires
     enum-known-at-2
-    going-requires
     enum-known-at-3
     slot-requires
     write-requires
     copied-requires
-    going-requires-2
+    all-at-requires
     enum-known-at-4
     plus-requires
     write-requires-2
@@ -112,7 +105,6 @@ own-step-spec =
     enum-known-at-6
     plus-requires-2
     answer-requires
-    ended-requires
     same-length
     returns
     returns-2

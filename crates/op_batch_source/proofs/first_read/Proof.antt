@@ -15,23 +15,12 @@ copying-requires c κs = search needs
 enum-told-2 : tie.Need-enum-told-2
 enum-told-2 c = search needs
 
-one-at-requires : tie.Need-one-at-requires
-one-at-requires c κs = search needs
-
 returns : tie.Need-returns
 returns c = rw (c .before .before .enum-told .given .1, c .copying .ensures, c .before .with-job .ensures)
 
 returns-2 : tie.Need-returns-2
-returns-2 c = rw (c .before .enum-told2 .given .1, c .one-at .ensures)
+returns-2 c = rw (c .enum-told2 .given .1)
 
 pub first-read-spec : {M : Type 1} → statement M
 first-read-spec =
-    tie.close
-    (tie.spec
-    enum-told
-    with-job-requires
-    copying-requires
-    enum-told-2
-    one-at-requires
-    returns
-    returns-2)
+    tie.close (tie.spec enum-told with-job-requires copying-requires enum-told-2 returns returns-2)

@@ -12,15 +12,11 @@ taking-requires c κs = search needs
 enum-told-2 : tie.Need-enum-told-2
 enum-told-2 c = search needs
 
-going-requires : tie.Need-going-requires
-going-requires c κs = search needs
-
 returns : tie.Need-returns
 returns c = rw (c .before .enum-told .given .1, c .taking .ensures)
 
 returns-2 : tie.Need-returns-2
-returns-2 c = rw (c .before .enum-told2 .given .1, c .going .ensures)
+returns-2 c = rw (c .enum-told2 .given .1)
 
 pub held-spec : {M : Type 1} → statement M
-held-spec =
-    tie.close (tie.spec enum-told taking-requires enum-told-2 going-requires returns returns-2)
+held-spec = tie.close (tie.spec enum-told taking-requires enum-told-2 returns returns-2)

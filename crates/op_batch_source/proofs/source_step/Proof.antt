@@ -6,20 +6,14 @@ use Rattle.op_batch_source.proofs.source_step.Tie as tie
 enum-known-at : tie.Need-enum-known-at
 enum-known-at c = search needs
 
-going-requires : tie.Need-going-requires
-going-requires c κs = search needs
-
 enum-known-at-2 : tie.Need-enum-known-at-2
 enum-known-at-2 c = search needs
 
 is-empty-requires : tie.Need-is-empty-requires
 is-empty-requires c κs = search needs
 
-ended-requires : tie.Need-ended-requires
-ended-requires c κs = search needs
-
 returns : tie.Need-returns
-returns c = rw (c .before .before .before .before .at2 .given .1, c .ended .ensures, ← c .before .before .is-empty .ensures, c .before .if1 .taken)
+returns c = rw (c .before .before .before .at2 .given .1, ← c .before .is-empty .ensures, c .if1 .taken)
 
 length-requires : tie.Need-length-requires
 length-requires c κs = search needs
@@ -29,9 +23,6 @@ wanted-requires c κs = search needs
 
 reserving-requires : tie.Need-reserving-requires
 reserving-requires c κs = search needs
-
-going-requires-2 : tie.Need-going-requires-2
-going-requires-2 c κs = search needs
 
 enum-known-at-3 : tie.Need-enum-known-at-3
 enum-known-at-3 c = search needs
@@ -51,9 +42,6 @@ read-requires c κs = search needs
 first-read-requires : tie.Need-first-read-requires
 first-read-requires c κs = search needs
 
-going-requires-3 : tie.Need-going-requires-3
-going-requires-3 c κs = search needs
-
 enum-known-at-5 : tie.Need-enum-known-at-5
 enum-known-at-5 c = search needs
 
@@ -67,16 +55,16 @@ one-step-requires : tie.Need-one-step-requires
 one-step-requires c κs = search needs
 
 returns-2 : tie.Need-returns-2
-returns-2 c = rw (c .before .before .before .at .given .1, c .going .ensures)
+returns-2 c = rw (c .before .before .at .given .1)
 
 returns-3 : tie.Need-returns-3
-returns-3 c = rw (c .before .before .before .before .before .before .before .at2 .given .1, c .going2 .ensures, c .before .reserving .ensures, c .before .before .wanted .ensures, c .before .before .before .length .ensures, ← c .before .before .before .before .before .is-empty .ensures, c .before .before .before .before .if1 .left)
+returns-3 c = rw (c .before .before .before .before .before .before .at2 .given .1, c .reserving .ensures, c .before .wanted .ensures, c .before .before .length .ensures, ← c .before .before .before .before .is-empty .ensures, c .before .before .before .if1 .left)
 
 returns-4 : tie.Need-returns-4
 returns-4 c = rw (c .before .before .before .at3 .given .1, c .held .ensures, c .before .hauling .ensures)
 
 returns-5 : tie.Need-returns-5
-returns-5 c = rw (c .before .before .before .before .at4 .given .1, c .going3 .ensures, c .before .first-read .ensures, c .before .before .read .ensures)
+returns-5 c = rw (c .before .before .before .at4 .given .1, c .first-read .ensures, c .before .read .ensures)
 
 returns-6 : tie.Need-returns-6
 returns-6 c = rw (c .before .before .at5 .given .1, c .all-step .ensures)
@@ -89,22 +77,18 @@ source-step-spec =
     tie.close
     (tie.spec
     enum-known-at
-    going-requires
     enum-known-at-2
     is-empty-requires
-    ended-requires
     returns
     length-requires
     wanted-requires
     reserving-requires
-    going-requires-2
     enum-known-at-3
     hauling-requires
     held-requires
     enum-known-at-4
     read-requires
     first-read-requires
-    going-requires-3
     enum-known-at-5
     all-step-requires
     enum-known-at-6

@@ -1,6 +1,6 @@
 -- Each arm of `taking` is its clause of `takingOf`, each test the definition's own, by what its calls ensure.
-use borrow.Author.Tests.{le-leb, lt-leb}
 use borrow.Author.Needs.{needs}
+use borrow.Author.Tests.{le-leb, lt-leb}
 use Rattle.op_batch_source.proofs.taking.Statement.{statement}
 use Rattle.op_batch_source.proofs.taking.Tie as tie
 
@@ -10,8 +10,8 @@ enum-told c = search needs
 copying-requires : tie.Need-copying-requires
 copying-requires c κs = search needs
 
-going-requires : tie.Need-going-requires
-going-requires c κs = search needs
+all-at-requires : tie.Need-all-at-requires
+all-at-requires c κs = search needs
 
 enum-told-2 : tie.Need-enum-told-2
 enum-told-2 c = search needs
@@ -25,14 +25,11 @@ returns c = rw (c .before .before .before .enum-told2 .given .1, c .stopped .ens
 one-at-requires : tie.Need-one-at-requires
 one-at-requires c κs = search needs
 
-going-requires-2 : tie.Need-going-requires-2
-going-requires-2 c κs = search needs
-
 returns-2 : tie.Need-returns-2
-returns-2 c = rw (c .before .before .enum-told .given .1, c .going .ensures, c .before .copying .ensures)
+returns-2 c = rw (c .before .before .enum-told .given .1, c .all-at .ensures, c .before .copying .ensures)
 
 returns-3 : tie.Need-returns-3
-returns-3 c = rw (c .before .before .before .before .enum-told2 .given .1, c .going2 .ensures, c .before .one-at .ensures, lt-leb _ _ (c .before .before .if1 .left))
+returns-3 c = rw (c .before .before .before .enum-told2 .given .1, c .one-at .ensures, lt-leb _ _ (c .before .if1 .left))
 
 pub taking-spec : {M : Type 1} → statement M
 taking-spec =
@@ -40,11 +37,10 @@ taking-spec =
     (tie.spec
     enum-told
     copying-requires
-    going-requires
+    all-at-requires
     enum-told-2
     stopped-requires
     returns
     one-at-requires
-    going-requires-2
     returns-2
     returns-3)

@@ -6,40 +6,22 @@ use Rattle.op_push.proofs.grown.Tie as tie
 enum-known-resized : tie.Need-enum-known-resized
 enum-known-resized c = search needs
 
-going-requires : tie.Need-going-requires
-going-requires c κs = search needs
-
 enum-told : tie.Need-enum-told
 enum-told c = search needs
-
-ended-requires : tie.Need-ended-requires
-ended-requires c κs = search needs
 
 enum-known-resized-2 : tie.Need-enum-known-resized-2
 enum-known-resized-2 c = search needs
 
-going-requires-2 : tie.Need-going-requires-2
-going-requires-2 c κs = search needs
-
 returns : tie.Need-returns
-returns c = rw (c .before .before .resized .given .1, c .going .ensures)
+returns c = rw (c .before .resized .given .1)
 
 returns-2 : tie.Need-returns-2
-returns-2 c = rw (c .before .enum-told .given .1, c .ended .ensures)
+returns-2 c = rw (c .enum-told .given .1)
 
 returns-3 : tie.Need-returns-3
-returns-3 c = rw (c .before .before .resized2 .given .1, c .going2 .ensures)
+returns-3 c = rw (c .before .resized2 .given .1)
 
 pub grown-spec : {M : Type 1} → statement M
 grown-spec =
     tie.close
-    (tie.spec
-    enum-known-resized
-    going-requires
-    enum-told
-    ended-requires
-    enum-known-resized-2
-    going-requires-2
-    returns
-    returns-2
-    returns-3)
+    (tie.spec enum-known-resized enum-told enum-known-resized-2 returns returns-2 returns-3)

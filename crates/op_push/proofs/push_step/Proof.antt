@@ -6,9 +6,6 @@ use Rattle.op_push.proofs.push_step.Tie as tie
 enum-told : tie.Need-enum-told
 enum-told c = search needs
 
-going-requires : tie.Need-going-requires
-going-requires c κs = search needs
-
 enum-known-at : tie.Need-enum-known-at
 enum-known-at c = search needs
 
@@ -23,9 +20,6 @@ growing-requires c κs = search needs
 
 returns : tie.Need-returns
 returns c = rw (c .before .before .before .before .before .at .given .1, c .growing .ensures, c .before .twice .ensures, ← c .before .before .before .is-full .ensures, c .before .before .if1 .taken)
-
-going-requires-2 : tie.Need-going-requires-2
-going-requires-2 c κs = search needs
 
 enum-known-at-2 : tie.Need-enum-known-at-2
 enum-known-at-2 c = search needs
@@ -42,23 +36,17 @@ enum-known-at-3 c = search needs
 write-requires : tie.Need-write-requires
 write-requires c κs = search needs
 
-going-requires-3 : tie.Need-going-requires-3
-going-requires-3 c κs = search needs
-
 enum-known-at-4 : tie.Need-enum-known-at-4
 enum-known-at-4 c = search needs
 
 plus-requires : tie.Need-plus-requires
 plus-requires c κs = search needs
 
-ended-requires : tie.Need-ended-requires
-ended-requires c κs = search needs
-
 returns-2 : tie.Need-returns-2
-returns-2 c = rw (c .before .before .enum-told .given .1, c .going .ensures)
+returns-2 c = rw (c .before .enum-told .given .1)
 
 returns-3 : tie.Need-returns-3
-returns-3 c = rw (c .before .before .before .before .at .given .1, c .going2 .ensures, ← c .before .before .is-full .ensures, c .before .if1 .left)
+returns-3 c = rw (c .before .before .before .at .given .1, ← c .before .is-full .ensures, c .if1 .left)
 
 same-length : tie.Need-same-length
 same-length c = search needs
@@ -70,32 +58,28 @@ same-length-2 : tie.Need-same-length-2
 same-length-2 c = search needs
 
 returns-5 : tie.Need-returns-5
-returns-5 c = rw (c .before .before .before .before .before .before .at3 .given .1, c .going3 .ensures, c .before .before .before .write .ensures)
+returns-5 c = rw (c .before .before .before .before .before .at3 .given .1, c .before .before .write .ensures)
 
 returns-6 : tie.Need-returns-6
-returns-6 c = rw (c .before .before .before .at4 .given .1, c .ended .ensures, c .before .plus .ensures)
+returns-6 c = rw (c .before .before .at4 .given .1, c .plus .ensures)
 
 pub push-step-spec : {M : Type 1} → statement M
 push-step-spec =
     tie.close
     (tie.spec
     enum-told
-    going-requires
     enum-known-at
     is-full-requires
     twice-requires
     growing-requires
     returns
-    going-requires-2
     enum-known-at-2
     resize-step-requires
     grown-requires
     enum-known-at-3
     write-requires
-    going-requires-3
     enum-known-at-4
     plus-requires
-    ended-requires
     returns-2
     returns-3
     same-length

@@ -3,33 +3,14 @@ use borrow.Author.Needs.{needs}
 use Rattle.machine.proofs.setup.fresh_machine.Statement.{statement}
 use Rattle.machine.proofs.setup.fresh_machine.Tie as tie
 
-fresh-queue-requires : tie.Need-fresh-queue-requires
-fresh-queue-requires c κs = search needs
+fresh-queues-requires : tie.Need-fresh-queues-requires
+fresh-queues-requires c κs = search needs
 
-fresh-queue-requires-2 : tie.Need-fresh-queue-requires-2
-fresh-queue-requires-2 c κs = search needs
-
-fresh-queue-requires-3 : tie.Need-fresh-queue-requires-3
-fresh-queue-requires-3 c κs = search needs
-
-fresh-queue-requires-4 : tie.Need-fresh-queue-requires-4
-fresh-queue-requires-4 c κs = search needs
+idle-threads-requires : tie.Need-idle-threads-requires
+idle-threads-requires c κs = search needs
 
 returns : tie.Need-returns
-returns c =
-    rw (
-      c .fresh-queue4 .ensures,
-      c .before .fresh-queue3 .ensures,
-      c .before .before .fresh-queue2 .ensures,
-      c .before .before .before .fresh-queue .ensures,
-    )
+returns c = rw (c .idle-threads .ensures, c .before .fresh-queues .ensures)
 
 pub fresh-machine-spec : {M : Type 1} → statement M
-fresh-machine-spec =
-    tie.close
-    (tie.spec
-    fresh-queue-requires
-    fresh-queue-requires-2
-    fresh-queue-requires-3
-    fresh-queue-requires-4
-    returns)
+fresh-machine-spec = tie.close (tie.spec fresh-queues-requires idle-threads-requires returns)

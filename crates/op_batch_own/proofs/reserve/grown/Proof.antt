@@ -9,29 +9,20 @@ enum-known-resized c = search needs
 reserve-at-requires : tie.Need-reserve-at-requires
 reserve-at-requires c κs = search needs
 
-going-requires : tie.Need-going-requires
-going-requires c κs = search needs
-
 enum-told : tie.Need-enum-told
 enum-told c = search needs
-
-ended-requires : tie.Need-ended-requires
-ended-requires c κs = search needs
 
 enum-known-resized-2 : tie.Need-enum-known-resized-2
 enum-known-resized-2 c = search needs
 
-going-requires-2 : tie.Need-going-requires-2
-going-requires-2 c κs = search needs
-
 returns : tie.Need-returns
-returns c = rw (c .before .before .before .resized .given .1, c .going .ensures, c .before .reserve-at .ensures)
+returns c = rw (c .before .before .resized .given .1, c .reserve-at .ensures)
 
 returns-2 : tie.Need-returns-2
-returns-2 c = rw (c .before .enum-told .given .1, c .ended .ensures)
+returns-2 c = rw (c .enum-told .given .1)
 
 returns-3 : tie.Need-returns-3
-returns-3 c = rw (c .before .before .resized2 .given .1, c .going2 .ensures)
+returns-3 c = rw (c .before .resized2 .given .1)
 
 pub grown-spec : {M : Type 1} → statement M
 grown-spec =
@@ -39,11 +30,8 @@ grown-spec =
     (tie.spec
     enum-known-resized
     reserve-at-requires
-    going-requires
     enum-told
-    ended-requires
     enum-known-resized-2
-    going-requires-2
     returns
     returns-2
     returns-3)

@@ -9,9 +9,6 @@ enum-known-at c = search needs
 reserve-at-requires : tie.Need-reserve-at-requires
 reserve-at-requires c κs = search needs
 
-going-requires : tie.Need-going-requires
-going-requires c κs = search needs
-
 enum-known-at-2 : tie.Need-enum-known-at-2
 enum-known-at-2 c = search needs
 
@@ -21,11 +18,8 @@ length-requires c κs = search needs
 holds-requires : tie.Need-holds-requires
 holds-requires c κs = search needs
 
-going-requires-2 : tie.Need-going-requires-2
-going-requires-2 c κs = search needs
-
 returns : tie.Need-returns
-returns c = rw (c .before .before .before .before .before .at2 .given .1, c .going2 .ensures, ← c .before .before .before .length .ensures, ← c .before .before .holds .ensures, c .before .if1 .taken)
+returns c = rw (c .before .before .before .before .at2 .given .1, ← c .before .before .length .ensures, ← c .before .holds .ensures, c .if1 .taken)
 
 holding-requires : tie.Need-holding-requires
 holding-requires c κs = search needs
@@ -43,7 +37,7 @@ grown-requires : tie.Need-grown-requires
 grown-requires c κs = search needs
 
 returns-2 : tie.Need-returns-2
-returns-2 c = rw (c .before .before .before .before .at .given .1, c .going .ensures, c .before .reserve-at .ensures)
+returns-2 c = rw (c .before .before .before .at .given .1, c .reserve-at .ensures)
 
 returns-3 : tie.Need-returns-3
 returns-3 c = rw (c .before .before .before .before .before .before .at2 .given .1, c .growing .ensures, c .before .holding .ensures, ← c .before .before .before .before .length .ensures, ← c .before .before .before .holds .ensures, c .before .before .if1 .left)
@@ -60,11 +54,9 @@ reserve-step-spec =
     (tie.spec
     enum-known-at
     reserve-at-requires
-    going-requires
     enum-known-at-2
     length-requires
     holds-requires
-    going-requires-2
     returns
     holding-requires
     growing-requires

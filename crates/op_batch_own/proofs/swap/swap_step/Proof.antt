@@ -12,12 +12,6 @@ near-cell-requires c κs = search needs
 read-requires : tie.Need-read-requires
 read-requires c κs = search needs
 
-swap-at-requires : tie.Need-swap-at-requires
-swap-at-requires c κs = search needs
-
-going-requires : tie.Need-going-requires
-going-requires c κs = search needs
-
 enum-known-at-2 : tie.Need-enum-known-at-2
 enum-known-at-2 c = search needs
 
@@ -27,12 +21,6 @@ far-cell-requires c κs = search needs
 read-requires-2 : tie.Need-read-requires-2
 read-requires-2 c κs = search needs
 
-swap-at-requires-2 : tie.Need-swap-at-requires-2
-swap-at-requires-2 c κs = search needs
-
-going-requires-2 : tie.Need-going-requires-2
-going-requires-2 c κs = search needs
-
 enum-known-at-3 : tie.Need-enum-known-at-3
 enum-known-at-3 c = search needs
 
@@ -41,12 +29,6 @@ near-cell-requires-2 c κs = search needs
 
 write-requires : tie.Need-write-requires
 write-requires c κs = search needs
-
-swap-at-requires-3 : tie.Need-swap-at-requires-3
-swap-at-requires-3 c κs = search needs
-
-going-requires-3 : tie.Need-going-requires-3
-going-requires-3 c κs = search needs
 
 enum-known-at-4 : tie.Need-enum-known-at-4
 enum-known-at-4 c = search needs
@@ -60,32 +42,29 @@ write-requires-2 c κs = search needs
 swapped-requires : tie.Need-swapped-requires
 swapped-requires c κs = search needs
 
-going-requires-4 : tie.Need-going-requires-4
-going-requires-4 c κs = search needs
-
 same-length : tie.Need-same-length
 same-length c = search needs
 
 returns : tie.Need-returns
-returns c = rw (c .before .before .before .before .before .before .at .given .1, c .going .ensures, c .before .swap-at .ensures, c .before .before .read .ensures, c .before .before .before .near-cell .ensures)
+returns c = rw (c .before .before .before .before .at .given .1, c .read .ensures, c .before .near-cell .ensures)
 
 same-length-2 : tie.Need-same-length-2
 same-length-2 c = search needs
 
 returns-2 : tie.Need-returns-2
-returns-2 c = rw (c .before .before .before .before .before .before .at2 .given .1, c .going2 .ensures, c .before .swap-at2 .ensures, c .before .before .read2 .ensures, c .before .before .before .far-cell .ensures)
+returns-2 c = rw (c .before .before .before .before .at2 .given .1, c .read2 .ensures, c .before .far-cell .ensures)
 
 same-length-3 : tie.Need-same-length-3
 same-length-3 c = search needs
 
 returns-3 : tie.Need-returns-3
-returns-3 c = rw (c .before .before .before .before .before .before .before .before .at3 .given .1, c .going3 .ensures, c .before .swap-at3 .ensures, c .before .before .before .before .write .ensures, c .before .before .before .before .before .near-cell2 .ensures)
+returns-3 c = rw (c .before .before .before .before .before .before .at3 .given .1, c .before .before .write .ensures, c .before .before .before .near-cell2 .ensures)
 
 same-length-4 : tie.Need-same-length-4
 same-length-4 c = search needs
 
 returns-4 : tie.Need-returns-4
-returns-4 c = rw (c .before .before .before .before .before .before .before .before .at4 .given .1, c .going4 .ensures, c .before .swapped .ensures, c .before .before .before .before .write2 .ensures, c .before .before .before .before .before .far-cell2 .ensures)
+returns-4 c = rw (c .before .before .before .before .before .before .before .at4 .given .1, c .swapped .ensures, c .before .before .before .write2 .ensures, c .before .before .before .before .far-cell2 .ensures)
 
 pub swap-step-spec : {M : Type 1} → statement M
 swap-step-spec =
@@ -94,23 +73,16 @@ swap-step-spec =
     enum-known-at
     near-cell-requires
     read-requires
-    swap-at-requires
-    going-requires
     enum-known-at-2
     far-cell-requires
     read-requires-2
-    swap-at-requires-2
-    going-requires-2
     enum-known-at-3
     near-cell-requires-2
     write-requires
-    swap-at-requires-3
-    going-requires-3
     enum-known-at-4
     far-cell-requires-2
     write-requires-2
     swapped-requires
-    going-requires-4
     same-length
     returns
     same-length-2

@@ -1,6 +1,6 @@
 -- Each arm of `one_step` is its clause of `oneStepOf`, each test the definition's own, by what its calls ensure.
-use borrow.Author.Tests.{eq-eqb, ne-eqb}
 use borrow.Author.Needs.{needs}
+use borrow.Author.Tests.{eq-eqb, ne-eqb}
 use Rattle.op_batch_source.proofs.one.one_step.Statement.{statement}
 use Rattle.op_batch_source.proofs.one.one_step.Tie as tie
 
@@ -22,9 +22,6 @@ turning-requires c κs = search needs
 returns : tie.Need-returns
 returns c = rw (c .before .before .before .before .before .before .at .given .1, c .turning .ensures, c .before .onward .ensures, c .before .before .plus .ensures, ← c .before .before .before .before .is-same .ensures, c .before .before .before .if1 .taken)
 
-ended-requires : tie.Need-ended-requires
-ended-requires c κs = search needs
-
 enum-known-at-2 : tie.Need-enum-known-at-2
 enum-known-at-2 c = search needs
 
@@ -40,9 +37,6 @@ returns-2 c = rw (c .before .before .before .before .at2 .given .1, c .stopped .
 one-at-requires : tie.Need-one-at-requires
 one-at-requires c κs = search needs
 
-going-requires : tie.Need-going-requires
-going-requires c κs = search needs
-
 enum-known-at-3 : tie.Need-enum-known-at-3
 enum-known-at-3 c = search needs
 
@@ -52,20 +46,14 @@ read-requires c κs = search needs
 one-at-requires-2 : tie.Need-one-at-requires-2
 one-at-requires-2 c κs = search needs
 
-going-requires-2 : tie.Need-going-requires-2
-going-requires-2 c κs = search needs
-
 enum-known-at-4 : tie.Need-enum-known-at-4
 enum-known-at-4 c = search needs
 
 one-at-requires-3 : tie.Need-one-at-requires-3
 one-at-requires-3 c κs = search needs
 
-going-requires-3 : tie.Need-going-requires-3
-going-requires-3 c κs = search needs
-
 returns-3 : tie.Need-returns-3
-returns-3 c = rw (c .before .before .before .before .before .before .at4 .given .1, c .going3 .ensures, c .before .one-at3 .ensures, eq-eqb _ _ (c .before .before .if3 .taken))
+returns-3 c = rw (c .before .before .before .before .before .at4 .given .1, c .one-at3 .ensures, eq-eqb _ _ (c .before .if3 .taken))
 
 stopped-requires-2 : tie.Need-stopped-requires-2
 stopped-requires-2 c κs = search needs
@@ -88,23 +76,20 @@ onward-requires-2 c κs = search needs
 to-write-requires : tie.Need-to-write-requires
 to-write-requires c κs = search needs
 
-going-requires-4 : tie.Need-going-requires-4
-going-requires-4 c κs = search needs
-
 returns-4 : tie.Need-returns-4
-returns-4 c = rw (c .before .before .before .before .before .before .before .before .at5 .given .1, c .going4 .ensures, c .before .to-write .ensures, c .before .before .onward2 .ensures, c .before .before .before .next-in-hand .ensures, c .before .before .before .before .plus2 .ensures, ← c .before .before .before .before .before .before .is-same2 .ensures, c .before .before .before .before .before .if4 .taken)
+returns-4 c = rw (c .before .before .before .before .before .before .before .at5 .given .1, c .to-write .ensures, c .before .onward2 .ensures, c .before .before .next-in-hand .ensures, c .before .before .before .plus2 .ensures, ← c .before .before .before .before .before .is-same2 .ensures, c .before .before .before .before .if4 .taken)
 
 stopped-requires-3 : tie.Need-stopped-requires-3
 stopped-requires-3 c κs = search needs
 
 returns-5 : tie.Need-returns-5
-returns-5 c = rw (c .before .before .before .before .at .given .1, c .ended .ensures, ← c .before .before .is-same .ensures, c .before .if1 .left)
+returns-5 c = rw (c .before .before .before .at .given .1, ← c .before .is-same .ensures, c .if1 .left)
 
 returns-6 : tie.Need-returns-6
-returns-6 c = rw (c .before .before .before .before .before .at2 .given .1, c .going .ensures, c .before .one-at .ensures, ← c .before .before .before .is-empty .ensures, c .before .before .if2 .left)
+returns-6 c = rw (c .before .before .before .before .at2 .given .1, c .one-at .ensures, ← c .before .before .is-empty .ensures, c .before .if2 .left)
 
 returns-7 : tie.Need-returns-7
-returns-7 c = rw (c .before .before .before .before .at3 .given .1, c .going2 .ensures, c .before .one-at2 .ensures, c .before .before .read .ensures)
+returns-7 c = rw (c .before .before .before .at3 .given .1, c .one-at2 .ensures, c .before .read .ensures)
 
 returns-8 : tie.Need-returns-8
 returns-8 c = rw (c .before .before .before .before .before .at4 .given .1, c .stopped2 .ensures, ne-eqb _ _ (c .before .if3 .left))
@@ -122,20 +107,16 @@ one-step-spec =
     onward-requires
     turning-requires
     returns
-    ended-requires
     enum-known-at-2
     is-empty-requires
     stopped-requires
     returns-2
     one-at-requires
-    going-requires
     enum-known-at-3
     read-requires
     one-at-requires-2
-    going-requires-2
     enum-known-at-4
     one-at-requires-3
-    going-requires-3
     returns-3
     stopped-requires-2
     enum-known-at-5
@@ -144,7 +125,6 @@ one-step-spec =
     next-in-hand-requires
     onward-requires-2
     to-write-requires
-    going-requires-4
     returns-4
     stopped-requires-3
     returns-5

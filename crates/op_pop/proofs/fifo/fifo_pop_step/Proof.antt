@@ -9,9 +9,6 @@ enum-told c = search needs
 fifo-requires : tie.Need-fifo-requires
 fifo-requires c κs = search needs
 
-going-requires : tie.Need-going-requires
-going-requires c κs = search needs
-
 enum-known-at : tie.Need-enum-known-at
 enum-known-at c = search needs
 
@@ -21,20 +18,14 @@ is-empty-requires c κs = search needs
 nothing-for-requires : tie.Need-nothing-for-requires
 nothing-for-requires c κs = search needs
 
-ended-requires : tie.Need-ended-requires
-ended-requires c κs = search needs
-
 returns : tie.Need-returns
-returns c = rw (c .before .before .before .before .before .at .given .1, c .ended .ensures, c .before .nothing-for .ensures, ← c .before .before .before .is-empty .ensures, c .before .before .if1 .taken)
+returns c = rw (c .before .before .before .before .at .given .1, c .nothing-for .ensures, ← c .before .before .is-empty .ensures, c .before .if1 .taken)
 
 length-requires : tie.Need-length-requires
 length-requires c κs = search needs
 
 fifo-requires-2 : tie.Need-fifo-requires-2
 fifo-requires-2 c κs = search needs
-
-going-requires-2 : tie.Need-going-requires-2
-going-requires-2 c κs = search needs
 
 enum-known-at-2 : tie.Need-enum-known-at-2
 enum-known-at-2 c = search needs
@@ -48,26 +39,17 @@ is-behind-requires c κs = search needs
 fifo-requires-3 : tie.Need-fifo-requires-3
 fifo-requires-3 c κs = search needs
 
-going-requires-3 : tie.Need-going-requires-3
-going-requires-3 c κs = search needs
-
 returns-2 : tie.Need-returns-2
-returns-2 c = rw (c .before .before .before .before .before .before .before .at2 .given .1, c .going3 .ensures, c .before .fifo3 .ensures, ← c .before .before .before .before .plus .ensures, ← c .before .before .before .is-behind .ensures, c .before .before .if2 .taken)
+returns-2 c = rw (c .before .before .before .before .before .before .at2 .given .1, c .fifo3 .ensures, ← c .before .before .before .plus .ensures, ← c .before .before .is-behind .ensures, c .before .if2 .taken)
 
 fifo-requires-4 : tie.Need-fifo-requires-4
 fifo-requires-4 c κs = search needs
-
-going-requires-4 : tie.Need-going-requires-4
-going-requires-4 c κs = search needs
 
 enum-known-at-3 : tie.Need-enum-known-at-3
 enum-known-at-3 c = search needs
 
 nothing-for-requires-2 : tie.Need-nothing-for-requires-2
 nothing-for-requires-2 c κs = search needs
-
-ended-requires-2 : tie.Need-ended-requires-2
-ended-requires-2 c κs = search needs
 
 enum-known-at-4 : tie.Need-enum-known-at-4
 enum-known-at-4 c = search needs
@@ -79,16 +61,16 @@ reading-requires : tie.Need-reading-requires
 reading-requires c κs = search needs
 
 returns-3 : tie.Need-returns-3
-returns-3 c = rw (c .before .before .before .enum-told .given .1, c .going .ensures, c .before .fifo .ensures)
+returns-3 c = rw (c .before .before .enum-told .given .1, c .fifo .ensures)
 
 returns-4 : tie.Need-returns-4
-returns-4 c = rw (c .before .before .before .before .before .before .at .given .1, c .going2 .ensures, c .before .fifo2 .ensures, c .before .before .length .ensures, ← c .before .before .before .before .is-empty .ensures, c .before .before .before .if1 .left)
+returns-4 c = rw (c .before .before .before .before .before .at .given .1, c .fifo2 .ensures, c .before .length .ensures, ← c .before .before .before .is-empty .ensures, c .before .before .if1 .left)
 
 returns-5 : tie.Need-returns-5
-returns-5 c = rw (c .before .before .before .before .before .before .before .at2 .given .1, c .going4 .ensures, c .before .fifo4 .ensures, ← c .before .before .before .before .plus .ensures, ← c .before .before .before .is-behind .ensures, c .before .before .if2 .left)
+returns-5 c = rw (c .before .before .before .before .before .before .at2 .given .1, c .fifo4 .ensures, ← c .before .before .before .plus .ensures, ← c .before .before .is-behind .ensures, c .before .if2 .left)
 
 returns-6 : tie.Need-returns-6
-returns-6 c = rw (c .before .before .before .at3 .given .1, c .ended2 .ensures, c .before .nothing-for2 .ensures)
+returns-6 c = rw (c .before .before .at3 .given .1, c .nothing-for2 .ensures)
 
 returns-7 : tie.Need-returns-7
 returns-7 c = rw (c .before .before .before .at4 .given .1, c .reading .ensures, c .before .read .ensures)
@@ -99,26 +81,20 @@ fifo-pop-step-spec =
     (tie.spec
     enum-told
     fifo-requires
-    going-requires
     enum-known-at
     is-empty-requires
     nothing-for-requires
-    ended-requires
     returns
     length-requires
     fifo-requires-2
-    going-requires-2
     enum-known-at-2
     plus-requires
     is-behind-requires
     fifo-requires-3
-    going-requires-3
     returns-2
     fifo-requires-4
-    going-requires-4
     enum-known-at-3
     nothing-for-requires-2
-    ended-requires-2
     enum-known-at-4
     read-requires
     reading-requires

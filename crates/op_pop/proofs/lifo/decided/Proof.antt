@@ -9,29 +9,20 @@ minus-requires c κs = search needs
 is-behind-requires : tie.Need-is-behind-requires
 is-behind-requires c κs = search needs
 
-lifo-requires : tie.Need-lifo-requires
-lifo-requires c κs = search needs
-
 returns : tie.Need-returns
-returns c = rw (c .lifo .ensures, ← c .before .before .before .minus .ensures, ← c .before .before .is-behind .ensures, c .before .if1 .taken)
+returns c = rw (← c .before .before .minus .ensures, ← c .before .is-behind .ensures, c .if1 .taken)
 
 is-empty-requires : tie.Need-is-empty-requires
 is-empty-requires c κs = search needs
 
-lifo-requires-2 : tie.Need-lifo-requires-2
-lifo-requires-2 c κs = search needs
-
 returns-2 : tie.Need-returns-2
-returns-2 c = rw (c .lifo2 .ensures, ← c .before .before .before .before .before .minus .ensures, ← c .before .before .before .before .is-behind .ensures, ← c .before .before .is-empty .ensures, c .before .if2 .taken, c .before .before .before .if1 .left)
+returns-2 c = rw (← c .before .before .before .before .minus .ensures, ← c .before .before .before .is-behind .ensures, ← c .before .is-empty .ensures, c .if2 .taken, c .before .before .if1 .left)
 
 length-requires : tie.Need-length-requires
 length-requires c κs = search needs
 
-lifo-requires-3 : tie.Need-lifo-requires-3
-lifo-requires-3 c κs = search needs
-
 returns-3 : tie.Need-returns-3
-returns-3 c = rw (c .lifo3 .ensures, c .before .length .ensures, ← c .before .before .before .before .before .before .minus .ensures, ← c .before .before .before .before .before .is-behind .ensures, ← c .before .before .before .is-empty .ensures, c .before .before .if2 .left, c .before .before .before .before .if1 .left)
+returns-3 c = rw (c .length .ensures, ← c .before .before .before .before .before .minus .ensures, ← c .before .before .before .before .is-behind .ensures, ← c .before .before .is-empty .ensures, c .before .if2 .left, c .before .before .before .if1 .left)
 
 pub decided-spec : {M : Type 1} → statement M
 decided-spec =
@@ -39,11 +30,8 @@ decided-spec =
     (tie.spec
     minus-requires
     is-behind-requires
-    lifo-requires
     returns
     is-empty-requires
-    lifo-requires-2
     returns-2
     length-requires
-    lifo-requires-3
     returns-3)

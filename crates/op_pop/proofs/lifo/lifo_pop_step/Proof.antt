@@ -9,9 +9,6 @@ enum-told c = search needs
 lifo-requires : tie.Need-lifo-requires
 lifo-requires c κs = search needs
 
-going-requires : tie.Need-going-requires
-going-requires c κs = search needs
-
 enum-known-at : tie.Need-enum-known-at
 enum-known-at c = search needs
 
@@ -21,17 +18,11 @@ is-empty-requires c κs = search needs
 nothing-for-requires : tie.Need-nothing-for-requires
 nothing-for-requires c κs = search needs
 
-ended-requires : tie.Need-ended-requires
-ended-requires c κs = search needs
-
 returns : tie.Need-returns
-returns c = rw (c .before .before .before .before .before .at .given .1, c .ended .ensures, c .before .nothing-for .ensures, ← c .before .before .before .is-empty .ensures, c .before .before .if1 .taken)
+returns c = rw (c .before .before .before .before .at .given .1, c .nothing-for .ensures, ← c .before .before .is-empty .ensures, c .before .if1 .taken)
 
 lifo-requires-2 : tie.Need-lifo-requires-2
 lifo-requires-2 c κs = search needs
-
-going-requires-2 : tie.Need-going-requires-2
-going-requires-2 c κs = search needs
 
 enum-known-at-2 : tie.Need-enum-known-at-2
 enum-known-at-2 c = search needs
@@ -42,26 +33,20 @@ minus-requires c κs = search needs
 lifo-requires-3 : tie.Need-lifo-requires-3
 lifo-requires-3 c κs = search needs
 
-going-requires-3 : tie.Need-going-requires-3
-going-requires-3 c κs = search needs
-
 enum-known-at-3 : tie.Need-enum-known-at-3
 enum-known-at-3 c = search needs
 
 decided-requires : tie.Need-decided-requires
 decided-requires c κs = search needs
 
-going-requires-4 : tie.Need-going-requires-4
-going-requires-4 c κs = search needs
+lifo-requires-4 : tie.Need-lifo-requires-4
+lifo-requires-4 c κs = search needs
 
 enum-known-at-4 : tie.Need-enum-known-at-4
 enum-known-at-4 c = search needs
 
 nothing-for-requires-2 : tie.Need-nothing-for-requires-2
 nothing-for-requires-2 c κs = search needs
-
-ended-requires-2 : tie.Need-ended-requires-2
-ended-requires-2 c κs = search needs
 
 enum-known-at-5 : tie.Need-enum-known-at-5
 enum-known-at-5 c = search needs
@@ -72,11 +57,8 @@ minus-requires-2 c κs = search needs
 read-requires : tie.Need-read-requires
 read-requires c κs = search needs
 
-lifo-requires-4 : tie.Need-lifo-requires-4
-lifo-requires-4 c κs = search needs
-
-going-requires-5 : tie.Need-going-requires-5
-going-requires-5 c κs = search needs
+lifo-requires-5 : tie.Need-lifo-requires-5
+lifo-requires-5 c κs = search needs
 
 enum-known-at-6 : tie.Need-enum-known-at-6
 enum-known-at-6 c = search needs
@@ -87,20 +69,14 @@ is-same-requires c κs = search needs
 plus-requires : tie.Need-plus-requires
 plus-requires c κs = search needs
 
-lifo-requires-5 : tie.Need-lifo-requires-5
-lifo-requires-5 c κs = search needs
-
-going-requires-6 : tie.Need-going-requires-6
-going-requires-6 c κs = search needs
-
-returns-2 : tie.Need-returns-2
-returns-2 c = rw (c .before .before .before .before .before .before .at6 .given .1, c .going6 .ensures, c .before .lifo5 .ensures, c .before .before .plus .ensures, ← c .before .before .before .before .is-same .ensures, c .before .before .before .if2 .taken)
-
 lifo-requires-6 : tie.Need-lifo-requires-6
 lifo-requires-6 c κs = search needs
 
-going-requires-7 : tie.Need-going-requires-7
-going-requires-7 c κs = search needs
+returns-2 : tie.Need-returns-2
+returns-2 c = rw (c .before .before .before .before .before .at6 .given .1, c .lifo6 .ensures, c .before .plus .ensures, ← c .before .before .before .is-same .ensures, c .before .before .if2 .taken)
+
+lifo-requires-7 : tie.Need-lifo-requires-7
+lifo-requires-7 c κs = search needs
 
 enum-known-at-7 : tie.Need-enum-known-at-7
 enum-known-at-7 c = search needs
@@ -121,25 +97,25 @@ reading-requires-2 : tie.Need-reading-requires-2
 reading-requires-2 c κs = search needs
 
 returns-3 : tie.Need-returns-3
-returns-3 c = rw (c .before .before .before .enum-told .given .1, c .going .ensures, c .before .lifo .ensures)
+returns-3 c = rw (c .before .before .enum-told .given .1, c .lifo .ensures)
 
 returns-4 : tie.Need-returns-4
-returns-4 c = rw (c .before .before .before .before .before .at .given .1, c .going2 .ensures, c .before .lifo2 .ensures, ← c .before .before .before .is-empty .ensures, c .before .before .if1 .left)
+returns-4 c = rw (c .before .before .before .before .at .given .1, c .lifo2 .ensures, ← c .before .before .is-empty .ensures, c .before .if1 .left)
 
 returns-5 : tie.Need-returns-5
-returns-5 c = rw (c .before .before .before .before .at2 .given .1, c .going3 .ensures, c .before .lifo3 .ensures, c .before .before .minus .ensures)
+returns-5 c = rw (c .before .before .before .at2 .given .1, c .lifo3 .ensures, c .before .minus .ensures)
 
 returns-6 : tie.Need-returns-6
-returns-6 c = rw (c .before .before .before .at3 .given .1, c .going4 .ensures, c .before .decided .ensures)
+returns-6 c = rw (c .before .before .before .at3 .given .1, c .lifo4 .ensures, c .before .decided .ensures)
 
 returns-7 : tie.Need-returns-7
-returns-7 c = rw (c .before .before .before .at4 .given .1, c .ended2 .ensures, c .before .nothing-for2 .ensures)
+returns-7 c = rw (c .before .before .at4 .given .1, c .nothing-for2 .ensures)
 
 returns-8 : tie.Need-returns-8
-returns-8 c = rw (c .before .before .before .before .before .at5 .given .1, c .going5 .ensures, c .before .lifo4 .ensures, c .before .before .read .ensures, c .before .before .before .minus2 .ensures)
+returns-8 c = rw (c .before .before .before .before .at5 .given .1, c .lifo5 .ensures, c .before .read .ensures, c .before .before .minus2 .ensures)
 
 returns-9 : tie.Need-returns-9
-returns-9 c = rw (c .before .before .before .before .before .at6 .given .1, c .going7 .ensures, c .before .lifo6 .ensures, ← c .before .before .before .is-same .ensures, c .before .before .if2 .left)
+returns-9 c = rw (c .before .before .before .before .at6 .given .1, c .lifo7 .ensures, ← c .before .before .is-same .ensures, c .before .if2 .left)
 
 returns-10 : tie.Need-returns-10
 returns-10 c = rw (c .before .before .at7 .given .1, c .reading .ensures)
@@ -153,37 +129,29 @@ lifo-pop-step-spec =
     (tie.spec
     enum-told
     lifo-requires
-    going-requires
     enum-known-at
     is-empty-requires
     nothing-for-requires
-    ended-requires
     returns
     lifo-requires-2
-    going-requires-2
     enum-known-at-2
     minus-requires
     lifo-requires-3
-    going-requires-3
     enum-known-at-3
     decided-requires
-    going-requires-4
+    lifo-requires-4
     enum-known-at-4
     nothing-for-requires-2
-    ended-requires-2
     enum-known-at-5
     minus-requires-2
     read-requires
-    lifo-requires-4
-    going-requires-5
+    lifo-requires-5
     enum-known-at-6
     is-same-requires
     plus-requires
-    lifo-requires-5
-    going-requires-6
-    returns-2
     lifo-requires-6
-    going-requires-7
+    returns-2
+    lifo-requires-7
     enum-known-at-7
     reading-requires
     enum-known-at-8

@@ -6,22 +6,14 @@ use Rattle.op_pop.proofs.shrink.reading.Tie as tie
 half-requires : tie.Need-half-requires
 half-requires c κs = search needs
 
-going-requires : tie.Need-going-requires
-going-requires c κs = search needs
-
 returns : tie.Need-returns
-returns c = rw (c .going .ensures, c .before .half .ensures, c .before .before .if1 .taken)
+returns c = rw (c .half .ensures, c .before .if1 .taken)
 
 job-for-requires : tie.Need-job-for-requires
 job-for-requires c κs = search needs
 
-ended-requires : tie.Need-ended-requires
-ended-requires c κs = search needs
-
 returns-2 : tie.Need-returns-2
-returns-2 c = rw (c .ended .ensures, c .before .job-for .ensures, c .before .before .if1 .left)
+returns-2 c = rw (c .job-for .ensures, c .before .if1 .left)
 
 pub reading-spec : {M : Type 1} → statement M
-reading-spec =
-    tie.close
-    (tie.spec half-requires going-requires returns job-for-requires ended-requires returns-2)
+reading-spec = tie.close (tie.spec half-requires returns job-for-requires returns-2)

@@ -6,17 +6,11 @@ use Rattle.op_pop.proofs.shrink.shrunk.Tie as tie
 enum-known-resized : tie.Need-enum-known-resized
 enum-known-resized c = search needs
 
-going-requires : tie.Need-going-requires
-going-requires c κs = search needs
-
 enum-told : tie.Need-enum-told
 enum-told c = search needs
 
 job-for-requires : tie.Need-job-for-requires
 job-for-requires c κs = search needs
-
-ended-requires : tie.Need-ended-requires
-ended-requires c κs = search needs
 
 enum-known-resized-2 : tie.Need-enum-known-resized-2
 enum-known-resized-2 c = search needs
@@ -24,30 +18,24 @@ enum-known-resized-2 c = search needs
 job-for-requires-2 : tie.Need-job-for-requires-2
 job-for-requires-2 c κs = search needs
 
-ended-requires-2 : tie.Need-ended-requires-2
-ended-requires-2 c κs = search needs
-
 returns : tie.Need-returns
-returns c = rw (c .before .before .resized .given .1, c .going .ensures)
+returns c = rw (c .before .resized .given .1)
 
 returns-2 : tie.Need-returns-2
-returns-2 c = rw (c .before .before .enum-told .given .1, c .ended .ensures, c .before .job-for .ensures)
+returns-2 c = rw (c .before .enum-told .given .1, c .job-for .ensures)
 
 returns-3 : tie.Need-returns-3
-returns-3 c = rw (c .before .before .before .resized2 .given .1, c .ended2 .ensures, c .before .job-for2 .ensures)
+returns-3 c = rw (c .before .before .resized2 .given .1, c .job-for2 .ensures)
 
 pub shrunk-spec : {M : Type 1} → statement M
 shrunk-spec =
     tie.close
     (tie.spec
     enum-known-resized
-    going-requires
     enum-told
     job-for-requires
-    ended-requires
     enum-known-resized-2
     job-for-requires-2
-    ended-requires-2
     returns
     returns-2
     returns-3)

@@ -21,30 +21,22 @@ queue-requires-2 c κs = search needs
 advance-requires : tie.Need-advance-requires
 advance-requires c κs = search needs
 
-counted-requires : tie.Need-counted-requires
-counted-requires c κs = search needs
-
-with-queue-requires : tie.Need-with-queue-requires
-with-queue-requires c κs = search needs
-
-with-stage-requires : tie.Need-with-stage-requires
-with-stage-requires c κs = search needs
+stored-requires : tie.Need-stored-requires
+stored-requires c κs = search needs
 
 same-length : tie.Need-same-length
 same-length c = search needs
 
 returns : tie.Need-returns
 returns c =
-    let a = c .before .before .before .before .before in
+    let a = c .before .before .before in
     let q = a .before .before in
     let t = q .before .before .before in
     let own = t .before .own-queue .ensures in
     let touched = rw own at (t .touched .ensures) in
     let mine = rw own at (q .before .before .queue .ensures) in
     rw (
-      c .with-stage .ensures,
-      c .before .with-queue .ensures,
-      c .before .before .counted .ensures,
+      c .stored .ensures,
       ← touched,
       ← mine,
       ← q .queue2 .ensures,
@@ -53,17 +45,4 @@ returns c =
     )
 
 pub ran-spec : {M : Type 1} → statement M
-ran-spec =
-    tie.close
-    (tie.spec
-    own-queue-requires
-    touched-requires
-    queue-requires
-    claim-requires
-    queue-requires-2
-    advance-requires
-    counted-requires
-    with-queue-requires
-    with-stage-requires
-    same-length
-    returns)
+ran-spec = tie.close (tie.spec own-queue-requires touched-requires queue-requires claim-requires queue-requires-2 advance-requires stored-requires same-length returns)

@@ -1,0 +1,22 @@
+-- The tests are those of `stepOf`, by what its calls ensure.
+use borrow.Author.Needs.{needs}
+use Rattle.machine.proofs.state.Machine.may_step.Statement.{statement}
+use Rattle.machine.proofs.state.Machine.may_step.Tie as tie
+
+gate-requires : tie.Need-gate-requires
+gate-requires c κs = search needs
+
+stage-requires : tie.Need-stage-requires
+stage-requires c κs = search needs
+
+step-gate-requires : tie.Need-step-gate-requires
+step-gate-requires c κs = search needs
+
+then-gate-requires : tie.Need-then-gate-requires
+then-gate-requires c κs = search needs
+
+returns : tie.Need-returns
+returns c = rw (c .then-gate .ensures, c .before .step-gate .ensures, c .before .before .stage .ensures, c .before .before .before .gate .ensures)
+
+pub may-step-spec : {M : Type 1} → statement M
+may-step-spec = tie.close (tie.spec gate-requires stage-requires step-gate-requires then-gate-requires returns)
