@@ -1,0 +1,13 @@
+pub mod CountLaws
+pub mod CellLaws
+pub mod Stable
+pub mod Good
+pub mod Resize
+pub mod Push
+pub mod Pops
+pub mod Exchange
+pub mod Steal
+pub mod Batch
+pub mod Own
+pub mod Source
+pub mod Calls
