@@ -11,3 +11,4 @@ pub mod Batch
 pub mod Own
 pub mod Source
 pub mod Calls
+pub mod Indices

@@ -1,7 +1,8 @@
--- In reading order: counts; stages; the tables; the machine; the logical queue; the invariant.
+-- In reading order: counts; stages; the tables; the machine; the logical queue; the invariant; how far indices go.
 pub mod Count
 pub mod Stage
 pub mod Tables
 pub mod Machine
 pub mod Logical
 pub mod Invariant
+pub mod Bound
