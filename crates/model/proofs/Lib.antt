@@ -12,3 +12,5 @@ pub mod Own
 pub mod Source
 pub mod Calls
 pub mod Indices
+pub mod Effects
+pub mod Places

@@ -13,6 +13,7 @@ use Rattle.model.specs.Stage.{working, nothing, going, ended}
 use Rattle.model.specs.Tables.{Offer, resizeStep, reading, shrinkStep, fifoStep, lifoStep}
 use Rattle.model.specs.Logical.{lo, hi, held, accepts, gives}
 use Rattle.model.specs.Invariant.{Ok, view}
+use Rattle.model.specs.Memory.{content}
 use Rattle.model.proofs.CountLaws.{stand-front, stand-back}
 use Rattle.model.proofs.Stable.{ev-ends, ev-refl, reach-le, reach-fifo, le-reach}
 use Rattle.model.proofs.Good.{Good, Calm, quiet, ok-rest}

@@ -12,6 +12,7 @@ use Rattle.model.specs.Tables.{inHand, toHand}
 use Rattle.model.specs.Logical.{lo, hi}
 use Rattle.model.specs.Invariant.{isFifo, isLifo, Reach, View, Ev, wide, Span, Ring, Has, StealKnows, Copied, Bulk, BulkRing, Before, Single}
 use Rattle.model.specs.Invariant.{WantedSpan, OwnKnows, SourceKnows}
+use Rattle.model.specs.Memory.{content}
 use Rattle.model.proofs.CountLaws.{stand-cong}
 
 -- ---- evolving

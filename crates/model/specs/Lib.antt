@@ -1,4 +1,4 @@
--- In reading order: counts; stages; the tables; the machine; the logical queue; the invariant; how far indices go.
+-- In reading order: counts; stages; the tables; the machine; the logical queue; the invariant; how far indices go; rings and cells.
 pub mod Count
 pub mod Stage
 pub mod Tables
@@ -6,3 +6,4 @@ pub mod Machine
 pub mod Logical
 pub mod Invariant
 pub mod Bound
+pub mod Memory
