@@ -5,3 +5,5 @@ pub mod AgreeSteal
 pub mod AgreeBatch
 pub mod AgreeSource
 pub mod AgreeOwn
+pub mod PoolLaws
+pub mod LinkedLaws

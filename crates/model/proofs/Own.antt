@@ -12,7 +12,6 @@ use Rattle.model.specs.Stage.{noRing, Out, out, going, ended}
 use Rattle.model.specs.Tables.{told, Offer, resizeStep, withCount, inHand, slot, ownStep}
 use Rattle.model.specs.Logical.{lo, hi, handOf, hauled, held, accepts, gives, Says}
 use Rattle.model.specs.Invariant.{ResizeOk, StageOk, Ok, View, view, part, Bulk, Before, WantedSpan, OwnKnows}
-use Rattle.model.specs.Memory.{content}
 use Rattle.model.proofs.CountLaws.{stand-back, stand-cong, stand-split, stand-upd}
 use Rattle.model.proofs.CellLaws.{cell-later}
 use Rattle.model.proofs.Stable.{ev-ends}

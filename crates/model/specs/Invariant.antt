@@ -14,7 +14,6 @@ use Rattle.model.specs.Stage.{swap-put, swap-last, own-store, Stage, idl
 use Rattle.model.specs.Tables.{inHand, toHand}
 use Rattle.model.specs.Machine.{ownQueue, owner, State}
 use Rattle.model.specs.Logical.{lo, hi, handOf, amount, accepts, gives, Says}
-use Rattle.model.specs.Memory.{content}
 
 -- ---- what the owner's stage knows
 
