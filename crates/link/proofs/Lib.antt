@@ -7,3 +7,6 @@ pub mod AgreeSource
 pub mod AgreeOwn
 pub mod PoolLaws
 pub mod LinkedLaws
+pub mod KeptLaws
+pub mod FreeLaws
+pub mod SoundLaws
