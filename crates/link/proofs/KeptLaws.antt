@@ -112,7 +112,7 @@ pub data Keeping (R : ℕ → ℕ → Ring) (new : Ring) (x : Stage) : Type 0 wh
   keeps-held : (k r : ℕ) → Holds x k r → Keeping R new x
   keeps-built : (builds x ≡ not-building → ⊥) → keptOf (stageFor R new x) ≡ Q.Built new → Keeping R new x
 
-builds-one : (c : ℕ) (f : ℕ → ℕ) → building c f ≡ not-building → ⊥
+pub builds-one : (c : ℕ) (f : ℕ → ℕ) → building c f ≡ not-building → ⊥
 builds-one c f e = let z : _≡_ {A = ℕ} 0 1 = cc in omega arith
 
 module _ (R : ℕ → ℕ → Ring) (new : Ring) where

@@ -10,3 +10,5 @@ pub mod LinkedLaws
 pub mod KeptLaws
 pub mod FreeLaws
 pub mod SoundLaws
+pub mod NameLaws
+pub mod StoreLaws
