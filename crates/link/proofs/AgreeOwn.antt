@@ -21,11 +21,11 @@ use Rattle.op_batch.specs.Haul as H
 use Rattle.model.specs.Stage.{Flavour, fifo, lifo, Queue, cap, setCell, ResizeStage, own, Wanted, InHand, none, some, Haul, OwnStage, reserve-back}
 use Rattle.model.specs.Stage.{reserve-front, reserve-resize, own-back, all-write, one-write, swap-near, swap-far, swap-put, swap-last, own-store}
 use Rattle.model.specs.Stage.{noRing, Out, going, ended}
-use Rattle.model.specs.Tables.{Claim, Offer, Resized, more, failed, finished, resizeStep, resized, slot, turning, ownStep}
+use Rattle.model.specs.Tables.{Claim, Resized, more, failed, finished, resizeStep, resized, slot, turning, ownStep}
 use Rattle.model.specs.Machine.{stored}
 use Rattle.model.specs.Invariant.{HaulOk, Ok}
 use Rattle.model.specs.Memory.{noteResize}
-use Rattle.link.specs.Map.{ix, flavorOf, haulFor, resizeAt, queueFor, outFor, noted, offered}
+use Rattle.link.specs.Map.{ix, flavorOf, haulFor, resizeAt, queueFor, outFor, noted, offerFor}
 use Rattle.link.proofs.AgreeResize.{either, Fits, Agrees, resizedFor, ResizeNames, resize-agree}
 use Rattle.link.proofs.AgreeBatch.{copy-agree, swap-agree, turn-agree}
 
@@ -43,9 +43,6 @@ OwnNames R new gm gc (swap-last h x near) q = Unit
 OwnNames R new gm gc (own-store h) q = Unit
 
 module _ (fl : Flavour) (R : ℕ → ℕ → Ring) (k t : ℕ) (new : Ring) (q : Queue) (cells : List ℕ) (w : Fits (R t) q cells) (gm : Claim) (gc : CodeClaim) where
-  abbrev offer : OwnStage → Offer
-  offer p = record { capacity = offered (own k p) q; claim = gm }
-
   abbrev Same : OwnStage → Out → Type 0
   Same p o = Agrees fl fl R t new gm gc cells (own k p) q o
 
@@ -69,7 +66,7 @@ module _ (fl : Flavour) (R : ℕ → ℕ → Ring) (k t : ℕ) (new : Ring) (q :
       → H.turning (flavorOf fl) k (haulFor (R k) h) i (queueFor fl (R t) r) ≡ outFor fl R t new (turning fl k h i r)
   turn-own h i r = turn-agree R k new t fl fl h i r
 
-  pub own-agree : (p : OwnStage) → Ok fl (own k p) q → OwnNames (R t) new gm gc p q → Same p (ownStep (offer p) fl k p q)
+  pub own-agree : (p : OwnStage) → Ok fl (own k p) q → OwnNames (R t) new gm gc p q → Same p (ownStep (offerFor gm (own k p) q) fl k p q)
   unfolding ownStep
   own-agree (reserve-back a) o h = refl
   own-agree (reserve-front a b) o h =
@@ -104,6 +101,6 @@ module _ (fl : Flavour) (R : ℕ → ℕ → Ring) (k t : ℕ) (new : Ring) (q :
       let l = o .stage .1 in rw (own-ix j (j .n - suc x) (o .stage .0) (omega arith), add-one, swap-agree R k new j (suc x))
   own-agree (own-store j) o h = stored (j .hand) refl (own-ix j (j .n) (o .stage) (omega arith))
     where
-      stored : (a : InHand) → j .hand ≡ a → plusOf (ix (j .b)) (j .n) ≡ ix (j .b + j .n) → Same (own-store j) (ownStep (offer (own-store j)) fl k (own-store j) q)
+      stored : (a : InHand) → j .hand ≡ a → plusOf (ix (j .b)) (j .n) ≡ ix (j .b + j .n) → Same (own-store j) (ownStep (offerFor gm (own k (own-store j)) q) fl k (own-store j) q)
       stored none a e = rw (e, a)
       stored (some v) a e = rw (e, a)

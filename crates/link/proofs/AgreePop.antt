@@ -17,16 +17,13 @@ use Rattle.op_resize.specs.Resize.{Resizing, resizing, resizeOf}
 use Rattle.model.specs.Stage.{Flavour, Queue, cap, ResizeStage, FifoPopStage, fifo-back, fifo-front, fifo-add, fifo-restore, fifo-read, LifoPopStage}
 use Rattle.model.specs.Stage.{lifo-back, lifo-front, lifo-store, lifo-reload, lifo-restore, lifo-last, lifo-exchange, job, lifo-won, lifo-read}
 use Rattle.model.specs.Stage.{Popper, byPop, byBatch, Stage, fifoPop, lifoPop, shrink, done, Out, going, ended}
-use Rattle.model.specs.Tables.{Claim, Offer, Resized, more, failed, finished, resizeStep, resized, shrinkStep, fifoStep, lifoStep}
+use Rattle.model.specs.Tables.{Claim, Resized, more, failed, finished, resizeStep, resized, shrinkStep, fifoStep, lifoStep}
 use Rattle.model.specs.Invariant.{Ok}
 use Rattle.model.specs.Memory.{noteResize}
-use Rattle.link.specs.Map.{ix, resizeAt, queueFor, noted, offered}
+use Rattle.link.specs.Map.{ix, resizeAt, queueFor, noted, offerFor}
 use Rattle.link.proofs.AgreeResize.{either, next-ix, Fits, Agrees, resizedFor, ResizeNames, resize-agree}
 
 module _ (fl : Flavour) (R : ℕ → ℕ → Ring) (k : ℕ) (new : Ring) (q : Queue) (cells : List ℕ) (w : Fits (R k) q cells) (gm : Claim) (gc : CodeClaim) where
-  abbrev offer : Stage → Offer
-  offer x = record { capacity = offered x q; claim = gm }
-
   abbrev Same : Stage → Out → Type 0
   Same x o = Agrees fl fl R k new gm gc cells x q o
 
@@ -40,14 +37,14 @@ module _ (fl : Flavour) (R : ℕ → ℕ → Ring) (k : ℕ) (new : Ring) (q : Q
   after-resize byBatch v z (finished r) l e f = rw (e, f)
 
   pub shrink-agree : (a : Popper) (v : ℕ) (z : ResizeStage) → Ok fl (shrink a v z) q → ResizeNames (R k) new gm gc z q
-      → Same (shrink a v z) (shrinkStep (offer (shrink a v z)) a v z q)
+      → Same (shrink a v z) (shrinkStep (offerFor gm (shrink a v z) q) a v z q)
   unfolding shrinkStep
   shrink-agree a v z o h =
       after-resize a v z (resizeStep gm z q) (noted (noteResize gm z) (R k (q .ring)) new cells) (resize-agree fl (R k) new q cells w 0 gm gc z (o .stage) h) refl
 
   -- ---- FIFO
 
-  pub fifo-agree : (a : Popper) (p : FifoPopStage) → Ok fl (fifoPop a p) q → Same (fifoPop a p) (fifoStep (offer (fifoPop a p)) a p q)
+  pub fifo-agree : (a : Popper) (p : FifoPopStage) → Ok fl (fifoPop a p) q → Same (fifoPop a p) (fifoStep (offerFor gm (fifoPop a p) q) a p q)
   unfolding fifoStep
   fifo-agree a fifo-back o = refl
   fifo-agree a (fifo-front b) o =
@@ -59,7 +56,7 @@ module _ (fl : Flavour) (R : ℕ → ℕ → Ring) (k : ℕ) (new : Ring) (q : Q
       either (leb b (q .front)) (λ t. said a t₁ t) (λ t. rw (t₁, t₂, t))
     where
       said : (a : Popper) → emptyB (ix b) (ix (q .front)) ≡ leb b (q .front) → leb b (q .front) ≡ true
-          → Same (fifoPop a (fifo-front b)) (fifoStep (offer (fifoPop a (fifo-front b))) a (fifo-front b) q)
+          → Same (fifoPop a (fifo-front b)) (fifoStep (offerFor gm (fifoPop a (fifo-front b)) q) a (fifo-front b) q)
       said byPop e t = rw (e, t)
       said byBatch e t = rw (e, t)
   fifo-agree a (fifo-add b d) o =
@@ -85,13 +82,13 @@ module _ (fl : Flavour) (R : ℕ → ℕ → Ring) (k : ℕ) (new : Ring) (q : Q
       (λ t. done a ca t)
     where
       done : (a : Popper) → R k (q .ring) .capacity ≡ cap q → (ltb smallest (R k (q .ring) .capacity) && leb d (R k (q .ring) .capacity / 4)) ≡ false
-          → Same (fifoPop a (fifo-read f d)) (fifoStep (offer (fifoPop a (fifo-read f d))) a (fifo-read f d) q)
+          → Same (fifoPop a (fifo-read f d)) (fifoStep (offerFor gm (fifoPop a (fifo-read f d)) q) a (fifo-read f d) q)
       done byPop ca t = rw (w .reads f, ← ca, t)
       done byBatch ca t = rw (w .reads f, ← ca, t)
 
   -- ---- LIFO
 
-  pub lifo-agree : (a : Popper) (p : LifoPopStage) → Ok fl (lifoPop a p) q → Same (lifoPop a p) (lifoStep (offer (lifoPop a p)) a p q)
+  pub lifo-agree : (a : Popper) (p : LifoPopStage) → Ok fl (lifoPop a p) q → Same (lifoPop a p) (lifoStep (offerFor gm (lifoPop a p) q) a p q)
   unfolding lifoStep
   lifo-agree a lifo-back o = refl
   lifo-agree a (lifo-front b) o =
@@ -102,7 +99,7 @@ module _ (fl : Flavour) (R : ℕ → ℕ → Ring) (k : ℕ) (new : Ring) (q : Q
       either (leb b (q .front)) (λ t. said a t₁ t) (λ t. rw (t₁, t))
     where
       said : (a : Popper) → emptyB (ix b) (ix (q .front)) ≡ leb b (q .front) → leb b (q .front) ≡ true
-          → Same (lifoPop a (lifo-front b)) (lifoStep (offer (lifoPop a (lifo-front b))) a (lifo-front b) q)
+          → Same (lifoPop a (lifo-front b)) (lifoStep (offerFor gm (lifoPop a (lifo-front b)) q) a (lifo-front b) q)
       said byPop e t = rw (e, t)
       said byBatch e t = rw (e, t)
   lifo-agree a (lifo-store b) o =
@@ -147,6 +144,6 @@ module _ (fl : Flavour) (R : ℕ → ℕ → Ring) (k : ℕ) (new : Ring) (q : Q
     where
       done : (a : Popper) → minusOf (ix b) 1 ≡ ix (b - 1) → R k (q .ring) .capacity ≡ cap q
           → (ltb smallest (R k (q .ring) .capacity) && ltb d (R k (q .ring) .capacity / 4)) ≡ false
-          → Same (lifoPop a (lifo-read b d)) (lifoStep (offer (lifoPop a (lifo-read b d))) a (lifo-read b d) q)
+          → Same (lifoPop a (lifo-read b d)) (lifoStep (offerFor gm (lifoPop a (lifo-read b d)) q) a (lifo-read b d) q)
       done byPop m ca t = rw (m, w .reads (b - 1), ← ca, t)
       done byBatch m ca t = rw (m, w .reads (b - 1), ← ca, t)

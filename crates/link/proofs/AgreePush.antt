@@ -17,10 +17,10 @@ use Rattle.core.specs.declared.out.Claim.{Claim as CodeClaim}
 use Rattle.op_resize.specs.Resize.{Resizing, resizing, resizeOf}
 use Rattle.model.specs.Stage.{Flavour, Queue, cap, ResizeStage, PushStage, push-back, push-front, push-resize, push-write, push-store, Stage, push}
 use Rattle.model.specs.Stage.{noRing, Out, going, ended}
-use Rattle.model.specs.Tables.{Claim, Offer, Resized, more, failed, finished, resizeStep, resized, pushStep}
+use Rattle.model.specs.Tables.{Claim, Resized, more, failed, finished, resizeStep, resized, pushStep}
 use Rattle.model.specs.Invariant.{Ok}
 use Rattle.model.specs.Memory.{noteResize}
-use Rattle.link.specs.Map.{resizeAt, queueFor, noted, offered}
+use Rattle.link.specs.Map.{resizeAt, queueFor, noted, offerFor}
 use Rattle.link.proofs.AgreeResize.{either, next-ix, Fits, Agrees, resizedFor, ResizeNames, resize-agree}
 
 abbrev pub PushNames : (ℕ → Ring) → Ring → Claim → CodeClaim → PushStage → Queue → Type 0
@@ -31,9 +31,6 @@ PushNames R new gm gc (push-write b) q = Unit
 PushNames R new gm gc (push-store b) q = Unit
 
 module _ (fl : Flavour) (R : ℕ → ℕ → Ring) (k : ℕ) (new : Ring) (q : Queue) (cells : List ℕ) (w : Fits (R k) q cells) (gm : Claim) (gc : CodeClaim) where
-  abbrev offer : Stage → Offer
-  offer x = record { capacity = offered x q; claim = gm }
-
   abbrev Says-same : Stage → Out → Type 0
   Says-same x o = Agrees fl fl R k new gm gc cells x q o
 
@@ -44,7 +41,7 @@ module _ (fl : Flavour) (R : ℕ → ℕ → Ring) (k : ℕ) (new : Ring) (q : Q
   after-resize x b z failed l e f = rw (e, f)
   after-resize x b z (finished r) l e f = rw (e, f)
 
-  pub push-agree : (x : ℕ) (p : PushStage) → Ok fl (push x p) q → PushNames (R k) new gm gc p q → Says-same (push x p) (pushStep (offer (push x p)) x p q)
+  pub push-agree : (x : ℕ) (p : PushStage) → Ok fl (push x p) q → PushNames (R k) new gm gc p q → Says-same (push x p) (pushStep (offerFor gm (push x p) q) x p q)
   unfolding pushStep
   push-agree x push-back o h = refl
   push-agree x (push-front b) o h =

@@ -12,3 +12,4 @@ pub mod FreeLaws
 pub mod SoundLaws
 pub mod NameLaws
 pub mod StoreLaws
+pub mod SizeLaws

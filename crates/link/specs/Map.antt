@@ -66,7 +66,7 @@ use Rattle.model.specs.Stage.{one-first, one-back, one-read, one-reload, one-ex
 use Rattle.model.specs.Stage.{own-back, all-write, one-write, swap-near, swap-far, swap-put, swap-last, own-store, Stage, idle, push, fifoPop}
 use Rattle.model.specs.Stage.{lifoPop, shrink, steal, len, ownBatch, Answer, working, done, nothing, empty, success, retry, moved, twoNumbers}
 use Rattle.model.specs.Stage.{tooLarge, noRing, Out}
-use Rattle.model.specs.Tables.{Claim, lost, got}
+use Rattle.model.specs.Tables.{Claim, lost, got, Offer}
 use Rattle.model.specs.Memory.{Note, kept, wrote, copied, claims, swaps}
 
 -- ---- small parts
@@ -264,9 +264,51 @@ offered (own k (swap-put h x near far)) q = 0
 offered (own k (swap-last h x near)) q = 0
 offered (own k (own-store h)) q = 0
 
+abbrev pub offerFor : Claim → Stage → Queue → Offer
+offerFor g x q = record { capacity = offered x q; claim = g }
+
 -- the two sides of a claim: no ring on both, or the ring that is named new
 abbrev pub ClaimIs : Ring → ℕ → Claim → CodeClaim → Type 0
 ClaimIs new c lost J.Nothing = Unit
 ClaimIs new c lost (J.Got number place) = ⊥
 ClaimIs new c (got f) J.Nothing = ⊥
 ClaimIs new c (got f) (J.Got number place) = record { number = number; place = place; capacity = c } ≡ new
+
+-- what a stage's claim asks of the names
+abbrev pub ResizeClaims : Ring → Claim → CodeClaim → ResizeStage → Type 0
+ResizeClaims new gm gc (resize-back c) = Unit
+ResizeClaims new gm gc (resize-front c b) = ClaimIs new c gm gc
+ResizeClaims new gm gc (resize-copy c b i f) = Unit
+ResizeClaims new gm gc (resize-swap c f) = Unit
+
+abbrev pub PushClaims : Ring → Claim → CodeClaim → PushStage → Type 0
+PushClaims new gm gc push-back = Unit
+PushClaims new gm gc (push-front b) = Unit
+PushClaims new gm gc (push-resize b z) = ResizeClaims new gm gc z
+PushClaims new gm gc (push-write b) = Unit
+PushClaims new gm gc (push-store b) = Unit
+
+abbrev pub OwnClaims : Ring → Claim → CodeClaim → OwnStage → Type 0
+OwnClaims new gm gc (reserve-back w) = Unit
+OwnClaims new gm gc (reserve-front w b) = Unit
+OwnClaims new gm gc (reserve-resize w z) = ResizeClaims new gm gc z
+OwnClaims new gm gc (own-back w) = Unit
+OwnClaims new gm gc (all-write h i v) = Unit
+OwnClaims new gm gc (one-write h i v) = Unit
+OwnClaims new gm gc (swap-near h x) = Unit
+OwnClaims new gm gc (swap-far h x near) = Unit
+OwnClaims new gm gc (swap-put h x near far) = Unit
+OwnClaims new gm gc (swap-last h x near) = Unit
+OwnClaims new gm gc (own-store h) = Unit
+
+abbrev pub StageClaims : Ring → Claim → CodeClaim → Stage → Type 0
+StageClaims new gm gc idle = Unit
+StageClaims new gm gc (push x p) = PushClaims new gm gc p
+StageClaims new gm gc (fifoPop w p) = Unit
+StageClaims new gm gc (lifoPop w p) = Unit
+StageClaims new gm gc (shrink w v z) = ResizeClaims new gm gc z
+StageClaims new gm gc (steal k p) = Unit
+StageClaims new gm gc (len k p) = Unit
+StageClaims new gm gc (ownBatch p) = Unit
+StageClaims new gm gc (source k p) = Unit
+StageClaims new gm gc (own k p) = OwnClaims new gm gc p
