@@ -13,3 +13,5 @@ pub mod SoundLaws
 pub mod NameLaws
 pub mod StoreLaws
 pub mod SizeLaws
+pub mod Agree
+pub mod StepLaws

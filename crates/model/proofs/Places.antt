@@ -210,7 +210,7 @@ module _ (n : ℕ) (fl : ℕ → Flavour) (mem : ℕ → ℕ) (s : State) (v : I
         go (yes p) = ap (λ (q : Queue). q .ring) (upd-same (s .queues) k (o .queue) j p) ∙ e .2 ∙ ap (λ (i : ℕ). s .queues i .ring) (sym p)
         go (no p) = ap (λ (q : Queue). q .ring) (queue-other j p)
 
-    top-at : (j : ℕ) → s′ .queues j .top ≡ s .queues j .top
+    pub top-at : (j : ℕ) → s′ .queues j .top ≡ s .queues j .top
     top-at j = go (ℕ-discrete j k)
       where
         go : Dec (j ≡ k) → s′ .queues j .top ≡ s .queues j .top
@@ -224,7 +224,7 @@ module _ (n : ℕ) (fl : ℕ → Flavour) (mem : ℕ → ℕ) (s : State) (v : I
         go (yes p) = ap (λ (q : Queue). q .rings) (upd-same (s .queues) k (o .queue) j p) ∙ e .0 ∙ ap (λ (i : ℕ). s .queues i .rings) (sym p)
         go (no p) = ap (λ (q : Queue). q .rings) (queue-other j p)
 
-    builds-on : (builds (o .stage) ≡ not-building → ⊥) → builds (o .stage) ≡ builds (s .stages t)
+    pub builds-on : (builds (o .stage) ≡ not-building → ⊥) → builds (o .stage) ≡ builds (s .stages t)
     builds-on h = go (e .4)
       where
         go : (builds (o .stage) ≡ builds (s .stages t)) ⊎ (builds (o .stage) ≡ not-building) → builds (o .stage) ≡ builds (s .stages t)
