@@ -15,3 +15,4 @@ pub mod StoreLaws
 pub mod SizeLaws
 pub mod Agree
 pub mod StepLaws
+pub mod TurnLaws
