@@ -16,3 +16,5 @@ pub mod SizeLaws
 pub mod Agree
 pub mod StepLaws
 pub mod TurnLaws
+pub mod BeginLaws
+pub mod SetupLaws

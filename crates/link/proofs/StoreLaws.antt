@@ -48,7 +48,7 @@ pub put-back : (m : Machine) (t k : ℕ) (g : CodeClaim) (q : CodeQueue) (x : Co
 put-back m t k J.Nothing q x = refl
 put-back m t k (J.Got number place) q x = refl
 
-few-queues : (n p : ℕ) → countsB n p ≡ true → n ≤ mostQueues
+pub few-queues : (n p : ℕ) → countsB n p ≡ true → n ≤ mostQueues
 few-queues n p h = leb-true n mostQueues (both (leb n mostQueues) _ (both (leb 1 n) _ h .1) .0)
 
 module _ (n : ℕ) (fl : ℕ → Flavour) (R : ℕ → ℕ → Ring) (s : State) (m : Machine) (cells : List ℕ) (w : Linked n fl R s m cells) (t k : ℕ) (lt : t < n) (lk : k < n)

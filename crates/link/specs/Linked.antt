@@ -17,6 +17,8 @@ use Rattle.model.specs.Stage.{push-resize, push-write, push-store, own, source,
 use Rattle.model.specs.Stage.{all-write, one-write, swap-near, swap-far, swap-put, swap-last, own-store, Stage, idle, push, fifoPop, lifoPop, shrink}
 use Rattle.model.specs.Stage.{steal, len, ownBatch}
 use Rattle.model.specs.Machine.{State}
+use Rattle.model.specs.Invariant.{Inv}
+use Rattle.model.specs.Bound.{Bounded}
 use Rattle.model.specs.Memory.{Named, Keeps}
 use Rattle.link.specs.Map.{stageFor, queueFor}
 
@@ -81,3 +83,11 @@ pub record Linked (n : ℕ) (fl : ℕ → Flavour) (R : ℕ → ℕ → Ring) (s
   pub numbers : (k r j i : ℕ) → k < n → j < n → Named n s k r → Named n s j i → R k r .number .0 ≡ R j i .number .0 → (k ≡ j) × (r ≡ i)
   pub next : (k r : ℕ) → k < n → Named n s k r → R k r .number .0 < m .«next_ring» .0
   pub keeps : Keeps n s (placesOf R) (poolOf cells)
+
+-- a state of the model stands behind the machine: linked, within the invariant, after c calls; mem: what each thread last began to push
+pub record Behind (n : ℕ) (fl : ℕ → Flavour) (mem : ℕ → ℕ) (c : ℕ) (m : Machine) (cells : List ℕ) : Type 0 where
+  pub names : ℕ → ℕ → Ring
+  pub state : State
+  pub linked : Linked n fl names state m cells
+  pub inv : Inv n fl mem state
+  pub bounded : Bounded n c state

@@ -56,6 +56,8 @@ use Rattle.core.specs.declared.out.Claim.{Claim as CodeClaim}
 use Rattle.core.specs.declared.out.Claim.the-variants as J
 use Rattle.core.specs.declared.out.Out.{Out as CodeOut}
 use Rattle.core.specs.Out.{Left, left}
+use Rattle.machine.specs.declared.operation.Operation.{Operation as CodeOperation}
+use Rattle.machine.specs.declared.operation.Operation.the-variants as Q
 use Rattle.model.specs.Stage.{Flavour, fifo, lifo, Queue, cap, ResizeStage, resize-back, resize-front, resize-copy, resize-swap, PushStage, push-back}
 use Rattle.model.specs.Stage.{push-front, push-resize, push-write, push-store, FifoPopStage, fifo-back, fifo-front, fifo-add, fifo-restore, fifo-read}
 use Rattle.model.specs.Stage.{LifoPopStage, lifo-back, lifo-front, lifo-store, lifo-reload, lifo-restore, lifo-last, lifo-exchange, job, lifo-won}
@@ -67,6 +69,7 @@ use Rattle.model.specs.Stage.{own-back, all-write, one-write, swap-near, swap-f
 use Rattle.model.specs.Stage.{lifoPop, shrink, steal, len, ownBatch, Answer, working, done, nothing, empty, success, retry, moved, twoNumbers}
 use Rattle.model.specs.Stage.{tooLarge, noRing, Out}
 use Rattle.model.specs.Tables.{Claim, lost, got, Offer}
+use Rattle.model.specs.Machine.{Operation, do-push, do-pop, do-length, do-steal, do-batch}
 use Rattle.model.specs.Memory.{Note, kept, wrote, copied, claims, swaps}
 
 -- ---- small parts
@@ -312,3 +315,17 @@ StageClaims new gm gc (len k p) = Unit
 StageClaims new gm gc (ownBatch p) = Unit
 StageClaims new gm gc (source k p) = Unit
 StageClaims new gm gc (own k p) = OwnClaims new gm gc p
+
+-- ---- from the code to the model
+
+abbrev pub flavourOf : Flavor → Flavour
+flavourOf Fifo = fifo
+flavourOf Lifo = lifo
+
+abbrev pub operationOf : CodeOperation → Operation
+operationOf (Q.Push v) = do-push v
+operationOf Q.Pop = do-pop
+operationOf (Q.Length k) = do-length k
+operationOf (Q.Steal k) = do-steal k
+operationOf (Q.Batch k limit) = do-batch plain k (limit - 1)
+operationOf (Q.BatchAndPop k limit) = do-batch andPop k (limit - 1)
