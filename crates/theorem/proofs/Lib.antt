@@ -1,1 +1,3 @@
 pub mod OneCall
+pub mod Runs
+pub mod Theorem

@@ -98,7 +98,7 @@ wish-is mem t (O.Steal k) = refl
 wish-is mem t (O.Batch k limit) = refl
 wish-is mem t (O.BatchAndPop k limit) = refl
 
-idle-of : (x : Stage) → busy x ≡ false → x ≡ idle
+pub idle-of : (x : Stage) → busy x ≡ false → x ≡ idle
 idle-of idle h = refl
 idle-of (push x p) h = absurd (wrong h)
   where
@@ -130,8 +130,8 @@ module _ (n : ℕ) (fl : ℕ → Flavour) (mem : ℕ → ℕ) (c : ℕ) (lc : c 
   later : Behind n fl mem (suc c) m cells
   later = record { names = b .names; state = s; linked = b .linked; inv = b .inv; bounded = still n fl c s (b .bounded) }
 
-  pub reached-sound : soundB m ≡ true
-  reached-sound = linked-sound n fl (b .names) s m cells (b .linked) mem (b .inv) (small n fl s m cells mem (b .inv) c (b .bounded) lc)
+  pub call-sound : soundB m ≡ true
+  call-sound = linked-sound n fl (b .names) s m cells (b .linked) mem (b .inv) (small n fl s m cells mem (b .inv) c (b .bounded) lc)
 
   -- ---- refused: all as it was
 
@@ -150,12 +150,12 @@ module _ (n : ℕ) (fl : ℕ → Flavour) (mem : ℕ → ℕ) (c : ℕ) (lc : c 
   unfolding gateOf
   gate-none t h =
       let w = b .linked in
-      rw (reached-sound, eq-eqb (length cells) (m .«place_count» * placeCells) (w .pool-length), w .count, le-ltb t n h)
+      rw (call-sound, eq-eqb (length cells) (m .«place_count» * placeCells) (w .pool-length), w .count, le-ltb t n h)
 
   -- a pool of another length
   gate-other : (l : List ℕ) (t : ℕ) → (length l ≡ m .«place_count» * placeCells → ⊥) → gateOf m (length l) t ≡ Shut K.PoolLength
   unfolding gateOf
-  gate-other l t h = rw (reached-sound, ne-eqb (length l) (m .«place_count» * placeCells) h)
+  gate-other l t h = rw (call-sound, ne-eqb (length l) (m .«place_count» * placeCells) h)
 
   gate-in : (t : ℕ) → t < n → gateOf m (length cells) t ≡ Open
   gate-in t lt = gate-open n fl s m cells mem (b .inv) c (b .bounded) lc (b .names) (b .linked) t lt
