@@ -45,8 +45,8 @@ use Rattle.link.specs.Map.{ix}
 use Rattle.link.specs.Linked.{Behind}
 use Rattle.link.proofs.LinkedLaws.{fits}
 use Rattle.link.proofs.TurnLaws.{idle-is}
-use Rattle.theorem.specs.History.{answered, Call, begin, step, lentBy, lent, poolAfter, callOf, Lends, run, jobsAfter, acceptedFrom, standsIn}
-use Rattle.theorem.specs.History.{standing, AtRest, AllAllowed}
+use Rattle.theorem.specs.History.{answered, Call, begin, step, lentBy, lent, poolAfter, callOf, Lends, runBy, run, jobsAfter, acceptedFrom}
+use Rattle.theorem.specs.History.{standsIn, standing, AtRest, AllAllowed}
 use Rattle.theorem.proofs.OneCall.{idle-of, Goes, one-call}
 
 -- ---- the place count stays
@@ -89,7 +89,7 @@ module _ (n : ℕ) (fl : ℕ → Flavour) (places : ℕ) where
 
   pub run-goes : (jobs : ℕ → ℕ) (c : ℕ) (m : Machine) (cells : List ℕ) (b : Behind n fl jobs c m cells) (calls : List Call) → c + length calls < 2 ^ 62
       → m .«place_count» ≡ places → Lends places calls → Ran jobs c m cells b calls
-  unfolding run acceptedFrom answered AllAllowed Lends
+  unfolding runBy acceptedFrom answered AllAllowed Lends
   run-goes jobs c m cells b [] l e h = record {
     jobs-now = jobs;
     behind = record {

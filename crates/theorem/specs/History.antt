@@ -71,12 +71,16 @@ pub record Session : Type 0 where
   pub cells : List ℕ
   pub history : List Event
 
-unfoldable pub run : Machine → List ℕ → List Call → Session
-run m cells [] = record { machine = m; cells = cells; history = [] }
-run m cells (c ∷ cs) =
-    let a : After = callOf m cells c in
-    let r : Session = run (a .called .machine) (poolAfter (lentBy c) cells (a .cells)) cs in
+-- by what a call leaves
+unfoldable pub runBy : (Machine → List ℕ → Call → After) → Machine → List ℕ → List Call → Session
+runBy calls m cells [] = record { machine = m; cells = cells; history = [] }
+runBy calls m cells (c ∷ cs) =
+    let a : After = calls m cells c in
+    let r : Session = runBy calls (a .called .machine) (poolAfter (lentBy c) cells (a .cells)) cs in
     record { machine = r .machine; cells = r .cells; history = record { call = c; answer = a .called .answer } ∷ r .history }
+
+abbrev pub run : Machine → List ℕ → List Call → Session
+run = runBy callOf
 
 -- k queues of these flavours, n places, the cells whatever they are
 abbrev pub session : ℕ → List Flavor → ℕ → List ℕ → List Call → Session
