@@ -19,9 +19,9 @@ use Rattle.machine.specs.State.{queueAt, stageAt}
 use Rattle.machine.specs.Claim.{usedBy, usedB, freePlace}
 use Rattle.model.specs.Stage.{Flavour}
 use Rattle.model.specs.Machine.{State}
-use Rattle.model.specs.Memory.{Held, Built, Live}
+use Rattle.model.specs.Memory.{Held, Built, Live, Free}
 use Rattle.link.specs.Map.{stageFor}
-use Rattle.link.specs.Linked.{Linked}
+use Rattle.link.specs.Linked.{placesOf, Linked}
 use Rattle.link.proofs.KeptLaws.{holds-kept, builds-kept}
 
 no-both : (b : Bool) → b ≡ true → b ≡ false → ⊥
@@ -82,5 +82,5 @@ module _ (n : ℕ) (fl : ℕ → Flavour) (R : ℕ → ℕ → Ring) (s : State)
           (ap (λ (r : ℕ). R k r .place .0) (sym (z .0)) ∙ h)
 
   -- the claimed place is free
-  pub place-free : freePlace m < m .«place_count» → (k r : ℕ) → Live n s k r → R k r .place .0 ≡ freePlace m → ⊥
+  pub place-free : freePlace m < m .«place_count» → Free n s (placesOf R) (freePlace m)
   place-free h = unused (freePlace m) (first-free (usedB m) (m .«place_count») 0 (omega arith))

@@ -22,7 +22,7 @@ use Rattle.model.specs.Stage.{Flavour, Queue, at, cap, setCell, swap, Out}
 use Rattle.model.specs.Tables.{Claim, got}
 use Rattle.model.specs.Machine.{State, stored}
 use Rattle.model.specs.Invariant.{Inv}
-use Rattle.model.specs.Memory.{builds, not-building, building, Note, kept, wrote, copied, claims, swaps, note, Effect, Live, Named, Keeps, put}
+use Rattle.model.specs.Memory.{builds, not-building, building, Note, kept, wrote, copied, claims, swaps, note, Effect, Named, Keeps, Free, put}
 use Rattle.model.proofs.CountLaws.{upd-same, upd-other}
 use Rattle.model.proofs.Effects.{Does}
 use Rattle.model.proofs.Places.{top-at, builds-on, kept-keeps, wrote-keeps, copied-keeps, claims-keeps, swaps-keeps}
@@ -51,7 +51,7 @@ module _ (n : ℕ) (fl : ℕ → Flavour) (R : ℕ → ℕ → Ring) (s : State)
     pub number : W .number .0 ≡ m .«next_ring» .0
     pub counted : suc (m .«next_ring» .0) ≡ next .0
     pub sound : ringSound (m .«place_count») W ≡ true
-    pub free : (j r : ℕ) → Live n s j r → R j r .place .0 ≡ W .place .0 → ⊥
+    pub free : Free n s (placesOf R) (W .place .0)
     pub cells-were : (y : ℕ) → f y ≡ poolOf cells (W .place .0) y
 
   abbrev Is : List ℕ → Type 0

@@ -15,7 +15,7 @@ use Rattle.model.specs.Tables.{Claim}
 use Rattle.model.specs.Machine.{State, stored}
 use Rattle.model.specs.Invariant.{StealKnows, OwnKnows, SourceKnows, seen, Aware, Inv}
 use Rattle.model.specs.Memory.{StealHolds, OwnHolds, SourceHolds, Holds, builds, Building, not-building, building, cellsOf, kept, Effect, Held}
-use Rattle.model.specs.Memory.{Built, Live, Named, content, Keeps, put}
+use Rattle.model.specs.Memory.{Built, Live, Named, content, Keeps, Free, put}
 use Rattle.model.proofs.CountLaws.{upd-same, upd-other}
 use Rattle.model.proofs.Effects.{Does}
 
@@ -52,7 +52,7 @@ module _ (n : ℕ) (s s′ : State) (place : ℕ → ℕ → ℕ) (pool : ℕ �
       go k r m z (no p) q = away k r m z (λ w. p (w .0))
 
   -- ring b of queue a is claimed, in a place that no live ring has; its cells are what they were
-  claiming : (a b : ℕ) → ((k r : ℕ) → Live n s k r → place k r ≡ place a b → ⊥) → ((x : ℕ) → content s′ a b x ≡ pool (place a b) x)
+  claiming : (a b : ℕ) → Free n s place (place a b) → ((x : ℕ) → content s′ a b x ≡ pool (place a b) x)
       → ((k r : ℕ) → Live n s′ k r → ((k ≡ a) × (r ≡ b) → ⊥) → Live n s k r)
       → ((k r : ℕ) → Live n s′ k r → ((k ≡ a) × (r ≡ b) → ⊥) → (x : ℕ) → content s′ k r x ≡ content s k r x) → Keeps n s′ place pool
   claiming a b free was live same = record {
@@ -356,7 +356,7 @@ module _ (n : ℕ) (fl : ℕ → Flavour) (mem : ℕ → ℕ) (s : State) (v : I
 
       -- a claim: of a place that no live ring has
       pub claims-keeps : builds (s .stages t) ≡ not-building → (place pool : ℕ → ℕ → ℕ)
-          → ((j r : ℕ) → Live n s j r → place j r ≡ place t (s .queues t .top) → ⊥) → ((x : ℕ) → f x ≡ pool (place t (s .queues t .top)) x)
+          → Free n s place (place t (s .queues t .top)) → ((x : ℕ) → f x ≡ pool (place t (s .queues t .top)) x)
           → Keeps n s place pool → Keeps n s′ place pool
       claims-keeps was place pool free found w =
           claiming n s s′ place pool w t (s .queues t .top) free (λ x. new-cells x ∙ found x) live (λ j r m p x. old-cells j r p x)

@@ -83,10 +83,11 @@ fifo-got fl w b d q o h = record {
   after = tt;
 }
 
-fifo-restored : (fl : Flavour) (w : Popper) (f : ℕ) (q : Queue) → Ok fl (fifoPop w (fifo-restore f)) q
-    → Good Calm fl (fifoPop w (fifo-restore f)) q (ended (setFront q f) (nothing w))
-fifo-restored fl w f q o = record {
-  ok = ok-rest fl idle (setFront q f) refl refl (o .order) (o .fits) (o .some-cap) (o .ring-top) tt;
+fifo-restored : (g : Offer) (fl : Flavour) (w : Popper) (f : ℕ) (q : Queue) → Ok fl (fifoPop w (fifo-restore f)) q
+    → Good Calm fl (fifoPop w (fifo-restore f)) q (fifoStep g w (fifo-restore f) q)
+unfolding fifoStep
+fifo-restored g fl w f q o = record {
+  ok = ok-rest fl idle _ refl refl (omega (arith, o .order)) (omega (arith, o .fits)) (o .some-cap) (o .ring-top) tt;
   ev = ev-refl fl (view (fifoPop w (fifo-restore f)) q);
   bal = λ m j w. refl;
   says = λ m h. tt;
@@ -106,7 +107,7 @@ fifo-good g fl w (fifo-front b) q o =
 fifo-good g fl w (fifo-add b d) q o =
     by-test (λ (x : Stage). Good Calm fl (fifoPop w (fifo-add b d)) q (going (setFront q (suc (q .front))) x)) (ltb b (suc (q .front))) _ _
     (λ t. fifo-lost fl w b d q o (omega tests)) (λ t. fifo-got fl w b d q o (omega tests))
-fifo-good g fl w (fifo-restore f) q o = fifo-restored fl w f q o
+fifo-good g fl w (fifo-restore f) q o = fifo-restored g fl w f q o
 fifo-good g fl w (fifo-read f d) q o = reading-good g fl (fifoPop w (fifo-read f d)) w d (at q f) q o refl refl (λ j. refl) (o .stage .1)
 
 -- ---- LIFO
@@ -197,7 +198,7 @@ lifo-good g fl w (lifo-reload b) q o =
     (λ u. lifo-taken fl w b q o (omega tests)))
 lifo-good g fl w (lifo-restore b) q o = lifo-reset fl w (lifo-restore b) b (nothing w) q o refl (λ m j. refl) (omega arith)
 lifo-good g fl w (lifo-last b f) q o =
-    quiet Calm fl (lifoPop w (lifo-last b f)) (lifoPop w (lifo-exchange b f (at q (b - 1)))) working q o refl refl (λ m j. refl) (λ m h. tt) tt
+    quiet Calm fl (lifoPop w (lifo-last b f)) _ working q o refl refl (λ m j. refl) (λ m h. tt) tt
     (o .stage .0, (o .stage .1 .0, o .stage .1 .1, o .stage .1 .2, λ e. (let g : b - 1 ≡ f = omega arith in rw g)))
 lifo-good g fl w (lifo-exchange b f v) q o =
     by-test (Good Calm fl (lifoPop w (lifo-exchange b f v)) q) (eqb (q .front) f) _ _ (λ t. lifo-exchanged fl w b f v q o (omega tests))

@@ -1,5 +1,5 @@
 -- The steps of a batch on the source, whatever the source's owner is doing.
-use mathlib.Core.Path.{_≡_, refl, sym, ap, subst}
+use mathlib.Core.Path.{_≡_, refl, sym, ap, ap₂, subst}
 use Prim.Native.Nat.{ℕ, suc, _+_, _-_, _≤_, _<_}
 use native.Mathlib.Omega.{arith}
 use native.Mathlib.Nat.{le-refl}
@@ -110,10 +110,10 @@ module _ (fs fo : Flavour) (k : ℕ) (s : Stage) (q : Queue) (o : Ok fs s q) (mq
 
   -- ---- exchanges
 
-  all-exchanged : (h : Haul) → Ok fo (source k (all-exchange h)) mq → SourceKnows fs fo (all-exchange h) (at mq) (view s q) → q .front ≡ h .f
-      → Robs (all-exchange h) (going (setFront q (h .f + inHand (h .hand) + h .n)) (own k (own-store h)))
-  all-exchanged h mo w e =
-      let m : ℕ = h .f + inHand (h .hand) + h .n in
+  -- m: the front that it leaves
+  all-exchanged : (h : Haul) (m : ℕ) → m ≡ h .f + inHand (h .hand) + h .n → Ok fo (source k (all-exchange h)) mq
+      → SourceKnows fs fo (all-exchange h) (at mq) (view s q) → q .front ≡ h .f → Robs (all-exchange h) (going (setFront q m) (own k (own-store h)))
+  all-exchanged h m is mo w e =
       let y = fifo-hi fs (view s q) (h .f) (inHand (h .hand) + h .n) (w .0 .0) (w .0 .1) in
       let z = w .0 .1 .1 in
       let a : m ≤ hi s q = omega arith in
@@ -132,7 +132,7 @@ module _ (fs fo : Flavour) (k : ℕ) (s : Stage) (q : Queue) (o : Ok fs s q) (mq
           g .bal j,
           w .0 .3 (omega arith) j,
           part-full fo (at mq) (h .n) (h .b) j,
-          ap (λ (u : ℕ). stand (at q) u m j) e,
+          ap₂ (λ (u v : ℕ). stand (at q) u v j) e is,
         );
         says = λ i. tt;
         after = (refl, w .1);
@@ -217,10 +217,10 @@ source-rob fs fo k s q o mq (all-copy h i) mo w =
     (refl, (w .0, w .1, w .2, λ l. w .1 .1 (m + i) l (omega arith) (omega arith))) (mo .stage)
 source-rob fs fo k s q o mq (all-reload h) mo w =
     by-test (Rob fs fo k s q (all-reload h) mq) (eqb (h .ring) (q .ring)) _ _
-    (λ t. look fs fo k s q o mq (all-reload h) (source k (all-exchange h)) working mo refl refl (λ m j. refl) (λ m. tt) (refl, w) (mo .stage))
+    (λ t. look fs fo k s q o mq (all-reload h) _ working mo refl refl (λ m j. refl) (λ m. tt) (refl, w) (mo .stage))
     (λ t. look fs fo k s q o mq (all-reload h) idle retry mo refl refl (λ m j. refl) (λ m. tt) tt tt)
 source-rob fs fo k s q o mq (all-exchange h) mo w =
-    by-test (Rob fs fo k s q (all-exchange h) mq) (eqb (q .front) (h .f)) _ _ (λ t. all-exchanged fs fo k s q o mq h mo w (omega tests))
+    by-test (Rob fs fo k s q (all-exchange h) mq) (eqb (q .front) (h .f)) _ _ (λ t. all-exchanged fs fo k s q o mq h _ (omega arith) mo w (omega tests))
     (λ t. look fs fo k s q o mq (all-exchange h) idle retry mo refl refl (λ m j. refl) (λ m. tt) tt tt)
 source-rob fs fo k s q o mq (one-first h x) mo w =
     by-test (Rob fs fo k s q (one-first h x) mq) (eqb (q .front) (h .f)) _ _ (λ t. first-exchanged fs fo k s q o mq h x mo w (omega tests))
@@ -232,7 +232,7 @@ source-rob fs fo k s q o mq (one-back h i) mo w =
     (λ t. look fs fo k s q o mq (one-back h i) (source k (one-read h i)) working mo refl refl (λ m j. refl) (λ m. tt)
     (refl, (w .0, span-of fs (view s q) (h .f) 1 (reach-le fs (lo s q) (h .f) (w .1)) (omega arith) (omega tests), w .2)) (mo .stage))
 source-rob fs fo k s q o mq (one-read h i) mo w =
-    look fs fo k s q o mq (one-read h i) (source k (one-reload h i (cell q (h .ring) (h .f)))) working mo refl refl (λ m j. refl) (λ m. tt)
+    look fs fo k s q o mq (one-read h i) _ working mo refl refl (λ m j. refl) (λ m. tt)
     (refl, (w, λ e l. ap (λ (z : ℕ). cell q z (h .f)) (sym e))) (mo .stage)
 source-rob fs fo k s q o mq (one-reload h i x) mo w =
     let i<n = mo .stage .1 in

@@ -200,6 +200,10 @@ pub record Keeps (n : ℕ) (s : State) (place : ℕ → ℕ → ℕ) (pool : ℕ
   pub agree : (k r : ℕ) → Live n s k r → (x : ℕ) → pool (place k r) x ≡ content s k r x
   pub apart : (k r j i : ℕ) → Live n s k r → Live n s j i → place k r ≡ place j i → (k ≡ j) × (r ≡ i)
 
+-- no live ring is in the place p
+abbrev pub Free : (n : ℕ) → State → (ℕ → ℕ → ℕ) → ℕ → Type 0
+Free n s place p = (k r : ℕ) → Live n s k r → place k r ≡ p → ⊥
+
 abbrev pub put : (ℕ → ℕ → ℕ) → (p x v : ℕ) → ℕ → ℕ → ℕ
 put pool p x v = upd pool p (upd (pool p) x v)
 
