@@ -14,3 +14,4 @@ pub mod Calls
 pub mod Indices
 pub mod Effects
 pub mod Places
+pub mod GaveUp
