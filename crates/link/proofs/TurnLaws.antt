@@ -6,8 +6,10 @@ use mathlib.Core.List.{List}
 use Prim.Native.Nat.{ℕ, suc, _+_, _-_, _*_, _%_, _^_, _≤_, _<_}
 use native.Mathlib.Omega.{arith}
 use native.Mathlib.Nat.{mod-eq-of-lt}
+use native.Mathlib.Decide.{ℕ-discrete}
 use lib.Dec.{T, ltb}
 use lib.ListN.{length}
+use lib.Seq.{getD-set-same, getD-set-other}
 use borrow.Author.Tests.{lt-ltb, eq-eqb, ltb-true}
 use Rattle.base.specs.Tests.{tests}
 use Rattle.index.specs.declared.Index.{Index}
@@ -27,7 +29,7 @@ use Rattle.advance.specs.Advance.{advanceOf}
 use Rattle.machine.specs.declared.operation.Gate.{Gate}
 use Rattle.machine.specs.declared.operation.Gate.the-variants.{Open, Shut}
 use Rattle.machine.specs.declared.state.Machine.{Machine}
-use Rattle.machine.specs.State.{After, after, queueAt, stageAt, withQueue, withStage, counted}
+use Rattle.machine.specs.State.{After, after, zeroQueue, queueAt, stageAt, withQueue, withStage, counted}
 use Rattle.machine.specs.Sound.{soundB}
 use Rattle.machine.specs.Claim.{freePlace, freeRing, claimOf}
 use Rattle.machine.specs.Step.{gateOf, stepGate, thenGate, passing, ran, stepOf}
@@ -40,7 +42,7 @@ use Rattle.model.specs.Tables.{Claim, lost, got, Offer}
 use Rattle.model.specs.Machine.{State, touched, busy, stepAt, stored, stepOut, stepped}
 use Rattle.model.specs.Invariant.{Ok, Inv}
 use Rattle.model.specs.Bound.{Bounded}
-use Rattle.model.specs.Memory.{builds, not-building, building, buildsResize, note, Named}
+use Rattle.model.specs.Memory.{builds, not-building, building, buildsResize, Note, kept, note, Named}
 use Rattle.model.proofs.Calls.{step-kept}
 use Rattle.model.proofs.Indices.{indices}
 use Rattle.model.proofs.Effects.{Does, step-does}
@@ -52,7 +54,7 @@ use Rattle.link.proofs.KeptLaws.{builds-one}
 use Rattle.link.proofs.FreeLaws.{place-free}
 use Rattle.link.proofs.SoundLaws.{and-both, linked-sound}
 use Rattle.link.proofs.NameLaws.{extend, extend-same, extend-other, renamed}
-use Rattle.link.proofs.StoreLaws.{putBack, nextAfter, put-back, stored-linked}
+use Rattle.link.proofs.StoreLaws.{putBack, nextAfter, put-back, few-queues, stored-linked}
 use Rattle.link.proofs.SizeLaws.{step-fits}
 use Rattle.link.proofs.Agree.{agree, touched-in}
 use Rattle.link.proofs.StepLaws.{Found, step-stored}
@@ -199,6 +201,8 @@ module _ (n : ℕ) (fl : ℕ → Flavour) (s : State) (m : Machine) (cells : Lis
       pub after-cells : List ℕ
       pub linked : Linked n fl names (stepped fl s t (offerFor claim x q) x) machine after-cells
       pub step : stepOf m cells t ≡ after machine (answerFor (stepOut fl s t (offerFor claim x q) x .answer)) after-cells
+      pub unchanged : stepOut fl s t (offerFor claim x q) x .queue ≡ q → note claim (fl t) x ≡ kept
+          → (after-cells ≡ cells) × ((j : ℕ) → j < n → queueAt machine j ≡ queueAt m j)
 
     module _ (R : ℕ → ℕ → Ring) (w : Linked n fl R s m cells) (gm : Claim) (gc : CodeClaim) where
       abbrev W : Ring
@@ -258,7 +262,17 @@ module _ (n : ℕ) (fl : ℕ → Flavour) (s : State) (m : Machine) (cells : Lis
             (λ c f e. stage-sized (W .capacity) x c f (w .sizes t lt) e) found
             (reads n fl R s m cells w mem v k (q .ring) (lk, inl refl) (v .oks k lk .ring-top)));
         step = step-is e cl;
+        unchanged = λ h i. (ap (λ (a : Note). noted a (R k (q .ring)) W cells) i, λ j l. same h j l (ℕ-discrete j k));
       }
+        where
+          same : o .queue ≡ q → (j : ℕ) → j < n → Dec (j ≡ k) → queueAt machine′ j ≡ queueAt m j
+          same h j l (yes p) =
+              let a = w .queue-list in
+              let b = few-queues n (m .«place_count») (w .counts) in
+              let c = lk in
+              rw p
+              (getD-set-same (m .queues) k (queueFor (fl k) (R k) (o .queue)) zeroQueue (omega arith) ∙ ap (queueFor (fl k) (R k)) h ∙ sym (w .queues k lk))
+          same h j l (no p) = getD-set-other (m .queues) k j (queueFor (fl k) (R k) (o .queue)) zeroQueue p
 
     not-got : (f : ℕ → ℕ) → lost ≡ got f → ⊥
     not-got f e = let z : _≡_ {A = ℕ} 0 1 = cc in omega arith

@@ -1,24 +1,39 @@
 -- What the invariant gives on the way, of every machine behind which a state of the model stands: so of every one that a session reaches.
 use mathlib.Core.Path.{_≡_, refl, sym, ap, ap₂, _∙_, subst}
-use mathlib.Core.Logic.{_⊎_, inl, inr}
+use mathlib.Core.Bool.{Bool, true, false}
+use mathlib.Core.Logic.{_⊎_, inl, inr, ⊎-elim}
 use mathlib.Core.List.{List}
-use Prim.Native.Nat.{ℕ, suc, _≤_, _<_}
+use Prim.Native.Nat.{ℕ, suc, _^_, _≤_, _<_}
 use native.Mathlib.Omega.{arith}
+use lib.Dec.{T}
+use Rattle.base.specs.Tests.{le-or-lt}
 use Rattle.ring.specs.declared.Ring.{Ring}
 use Rattle.cells.specs.Cells.{placeCells}
 use Rattle.core.specs.declared.kept.Kept.{Kept as CodeKept}
 use Rattle.core.specs.declared.kept.Kept.the-variants as Q
 use Rattle.core.specs.Kept.{keptOf}
 use Rattle.machine.specs.declared.state.Machine.{Machine}
-use Rattle.machine.specs.State.{queueAt, stageAt}
-use Rattle.model.specs.Stage.{Flavour}
-use Rattle.model.specs.Machine.{State}
+use Rattle.core.specs.declared.answer.Answer.{Answer as CodeAnswer}
+use Rattle.core.specs.declared.answer.Answer.the-variants as B
+use Rattle.core.specs.declared.answer.Refusal.{Refusal}
+use Rattle.core.specs.declared.answer.Refusal.the-variants as K
+use Rattle.core.specs.declared.answer.Shortage.{Shortage}
+use Rattle.machine.specs.State.{After, after, refused, queueAt, stageAt}
+use Rattle.machine.specs.Step.{gateOf, stepGate, thenGate, passing, stepOf}
+use Rattle.model.specs.Stage.{Flavour, Queue, job, byPop, byBatch, Stage, Answer, working, done, nothing, empty, success, retry, moved, twoNumbers}
+use Rattle.model.specs.Stage.{tooLarge, noRing, Out}
+use Rattle.model.specs.Tables.{Offer}
+use Rattle.model.specs.Machine.{State, touched, busy, stepAt}
 use Rattle.model.specs.Memory.{Held, Built, Live}
+use Rattle.model.specs.Early.{StillEarly}
 use Rattle.model.proofs.Indices.{indices}
 use Rattle.model.proofs.Places.{held-named, live-named}
-use Rattle.link.specs.Map.{ix, stageFor}
+use Rattle.model.proofs.GaveUp.{gave-up}
+use Rattle.link.specs.Map.{ix, stageFor, answerFor, offerFor}
 use Rattle.link.specs.Linked.{Behind}
 use Rattle.link.proofs.KeptLaws.{holds-kept, Keeping, keeps-nothing, keeps-held, keeps-built, keeping}
+use Rattle.link.proofs.TurnLaws.{idle-is, Turned, turn}
+use Rattle.theorem.proofs.OneCall.{to-T, gate-none, gate-in}
 
 -- the rings of a machine that are live: queue k's current ring, and what thread t keeps
 pub data LiveRing (m : Machine) : Ring → Type 0 where
@@ -105,3 +120,51 @@ module _ (n : ℕ) (fl : ℕ → Flavour) (jobs : ℕ → ℕ) (c : ℕ) (m : Ma
   keeps-one t a r (inl x) (inr y) = absurd (let z : Q.Built a ≡ Q.Held r = sym x ∙ y in let u : _≡_ {A = ℕ} 0 1 = cc in let v : ⊥ = omega arith in v)
   keeps-one t a r (inr x) (inl y) = absurd (let z : Q.Held a ≡ Q.Built r = sym x ∙ y in let u : _≡_ {A = ℕ} 0 1 = cc in let v : ⊥ = omega arith in v)
   keeps-one t a r (inr x) (inr y) = let z : Q.Held a ≡ Q.Held r = sym x ∙ y in cc
+
+  -- ---- after 8 or 9 nothing moved and no cell was written
+
+  -- of the model's answers, 8 and 9 are these two
+  short : (a : Answer) (x : Stage) (e : Shortage) → answerFor a ≡ B.GaveUp e → StillEarly a x
+  short working x e h = absurd (let z : _≡_ {A = ℕ} 0 1 = cc in let v : ⊥ = omega arith in v)
+  short done x e h = absurd (let z : _≡_ {A = ℕ} 0 1 = cc in let v : ⊥ = omega arith in v)
+  short (job byPop w) x e h = absurd (let z : _≡_ {A = ℕ} 0 1 = cc in let v : ⊥ = omega arith in v)
+  short (job byBatch w) x e h = absurd (let z : _≡_ {A = ℕ} 0 1 = cc in let v : ⊥ = omega arith in v)
+  short (nothing byPop) x e h = absurd (let z : _≡_ {A = ℕ} 0 1 = cc in let v : ⊥ = omega arith in v)
+  short (nothing byBatch) x e h = absurd (let z : _≡_ {A = ℕ} 0 1 = cc in let v : ⊥ = omega arith in v)
+  short empty x e h = absurd (let z : _≡_ {A = ℕ} 0 1 = cc in let v : ⊥ = omega arith in v)
+  short (success w) x e h = absurd (let z : _≡_ {A = ℕ} 0 1 = cc in let v : ⊥ = omega arith in v)
+  short retry x e h = absurd (let z : _≡_ {A = ℕ} 0 1 = cc in let v : ⊥ = omega arith in v)
+  short moved x e h = absurd (let z : _≡_ {A = ℕ} 0 1 = cc in let v : ⊥ = omega arith in v)
+  short (twoNumbers i j) x e h = absurd (let z : _≡_ {A = ℕ} 0 1 = cc in let v : ⊥ = omega arith in v)
+  short tooLarge x e h = tt
+  short noRing x e h = tt
+
+  not-short : (r : Refusal) (e : Shortage) → B.Refused r ≡ B.GaveUp e → ⊥
+  not-short r e h = let z : _≡_ {A = ℕ} 0 1 = cc in omega arith
+
+  abbrev Leaves : ℕ → After → Type 0
+  Leaves t a = (e : Shortage) → a .called .answer ≡ B.GaveUp e
+      → (a .cells ≡ cells) × ((j : ℕ) → j < n → queueAt (a .called .machine) j ≡ queueAt m j)
+
+  gave-up-in : c < 2 ^ 62 → (t : ℕ) → t < n → (y : Bool) → busy (s .stages t) ≡ y → Leaves t (stepOf m cells t)
+  unfolding stepOf
+  gave-up-in lc t lt false f =
+      rw (
+        gate-in n fl jobs c lc m cells b t lt,
+        b .linked .stages t lt,
+        idle-is (b .names) (b .names t (s .queues t .top)) (s .stages t),
+        f,
+      ) (λ e h. absurd (not-short K.Idle e h))
+  gave-up-in lc t lt true f =
+      let bx : T (busy (s .stages t)) = to-T (busy (s .stages t)) f in
+      let k : Turned n fl s m cells jobs (b .inv) c (b .bounded) lc t lt bx = turn n fl s m cells jobs (b .inv) c (b .bounded) lc t lt bx (b .names) (b .linked) in
+      let q : Queue = s .queues (touched t (s .stages t)) in
+      let g : Offer = offerFor (k .claim) (s .stages t) q in
+      let o : Out = stepAt g fl t (s .stages t) q in
+      subst (Leaves t) (sym (k .step))
+      (λ e h. (let u = gave-up g fl t (s .stages t) q bx (short (o .answer) (o .stage) e h) in k .unchanged (u .1) (u .2)))
+
+  pub gave-up-leaves : c < 2 ^ 62 → (t : ℕ) → Leaves t (stepOf m cells t)
+  unfolding stepOf
+  gave-up-leaves lc t =
+      ⊎-elim (λ h. rw (gate-none n fl jobs c lc m cells b t h) (λ e z. absurd (not-short K.NoSuch e z))) (λ h. gave-up-in lc t h (busy (s .stages t)) refl) (le-or-lt n t)

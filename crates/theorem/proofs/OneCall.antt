@@ -113,7 +113,7 @@ idle-of (ownBatch p) h = absurd (let z : _≡_ {A = ℕ} 0 1 = cc in let y : ⊥
 idle-of (source k p) h = absurd (let z : _≡_ {A = ℕ} 0 1 = cc in let y : ⊥ = omega arith in y)
 idle-of (own k p) h = absurd (let z : _≡_ {A = ℕ} 0 1 = cc in let y : ⊥ = omega arith in y)
 
-to-T : (b : Bool) → b ≡ true → T b
+pub to-T : (b : Bool) → b ≡ true → T b
 to-T true e = tt
 to-T false e = let z : _≡_ {A = ℕ} 0 1 = cc in absurd (omega arith)
 
@@ -146,7 +146,7 @@ module _ (n : ℕ) (fl : ℕ → Flavour) (mem : ℕ → ℕ) (c : ℕ) (lc : c 
   step-refused (other l) t r h = record { behind = later; bal = λ j. refl; fine = h }
 
   -- no such thread
-  gate-none : (t : ℕ) → n ≤ t → gateOf m (length cells) t ≡ Shut K.NoSuch
+  pub gate-none : (t : ℕ) → n ≤ t → gateOf m (length cells) t ≡ Shut K.NoSuch
   unfolding gateOf
   gate-none t h =
       let w = b .linked in
@@ -157,7 +157,7 @@ module _ (n : ℕ) (fl : ℕ → Flavour) (mem : ℕ → ℕ) (c : ℕ) (lc : c 
   unfolding gateOf
   gate-other l t h = rw (call-sound, ne-eqb (length l) (m .«place_count» * placeCells) h)
 
-  gate-in : (t : ℕ) → t < n → gateOf m (length cells) t ≡ Open
+  pub gate-in : (t : ℕ) → t < n → gateOf m (length cells) t ≡ Open
   gate-in t lt = gate-open n fl s m cells mem (b .inv) c (b .bounded) lc (b .names) (b .linked) t lt
 
   -- ---- begin
