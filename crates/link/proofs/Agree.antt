@@ -78,7 +78,7 @@ module _ (n : ℕ) (fl : ℕ → Flavour) (R : ℕ → ℕ → Ring) (s : State)
   touched-in (lifoPop a p) e = lt
   touched-in (shrink a x z) e = lt
   touched-in (steal k p) e = let a : Aware n fl s t (steal k p) = rw e at (v .aware t lt) in a .0
-  touched-in (len k p) e = let a : Aware n fl s t (len k p) = rw e at (v .aware t lt) in a
+  touched-in (len k p) e = let a : Aware n fl s t (len k p) = rw e at (v .aware t lt) in a .0
   touched-in (ownBatch p) e = lt
   touched-in (source k p) e = let a : Aware n fl s t (source k p) = rw e at (v .aware t lt) in a .0
   touched-in (own k p) e = lt
@@ -96,7 +96,7 @@ module _ (n : ℕ) (fl : ℕ → Flavour) (R : ℕ → ℕ → Ring) (s : State)
       (λ r j. ring-of (steal k p) e k r (refl, j))
   agree (len k p) e i h =
       let a : Aware n fl s t (len k p) = rw e at (v .aware t lt) in
-      length-agree (fl t) (fl k) R k W (s .queues k) cells (fit k a) gm gc (s .stages k) (high k a) p
+      length-agree (fl t) (fl k) R k W (s .queues k) cells (fit k (a .0)) gm gc (s .stages k) (high k (a .0)) p
   agree (ownBatch p) e i h =
       own-batch-agree (fl t) (fl t) R t W (s .queues t) cells (fit t lt) gm gc (s .stages t) (high t lt) p (soon (ownBatch p) e)
   agree (source k p) e i h =

@@ -92,7 +92,7 @@ module _ (n : ℕ) (fl : ℕ → Flavour) (R : ℕ → ℕ → Ring) (s : State)
   named-sound t (lifoPop b p) a = refl
   named-sound t (shrink b x z) a = refl
   named-sound t (steal k p) a = lt-ltb k n (a .0)
-  named-sound t (len k p) a = lt-ltb k n a
+  named-sound t (len k p) a = lt-ltb k n (a .0)
   named-sound t (ownBatch p) a = refl
   named-sound t (source k p) a = lt-ltb k n (a .0)
   named-sound t (own k p) a = lt-ltb k n (a .0)

@@ -13,7 +13,7 @@ use Rattle.model.specs.Tables.{Offer, pushStep, shrinkStep, fifoStep, li
 use Rattle.model.specs.Machine.{State, busy, stored, stepOut, stepped, Operation, do-push, do-pop, do-length, do-steal, do-batch, popping}
 use Rattle.model.specs.Machine.{fromOwn, begun, wish, Exists}
 use Rattle.model.specs.Logical.{lo, hi, held, amount, accepts, gives, Says}
-use Rattle.model.specs.Invariant.{StageOk, Ok, view, Ev, seen, Aware, Inv, amountAt, total, Kept}
+use Rattle.model.specs.Invariant.{StageOk, Ok, view, Ev, LengthKnows, seen, Aware, Inv, amountAt, total, Kept}
 use Rattle.model.proofs.CountLaws.{upd-same, upd-other, sum-cong, sum-but, sum-two}
 use Rattle.model.proofs.Stable.{ev-refl, stable-steal, stable-own, stable-source}
 use Rattle.model.proofs.Good.{Good, Calm, ok-as}
@@ -30,22 +30,23 @@ module _ (n : ℕ) (fl : ℕ → Flavour) where
     oks : (i : ℕ) → i < n → Ok (fl i) (s′ .stages i) (s′ .queues i)
     evs : (i : ℕ) → i < n → Ev (fl i) (seen n fl s i) (seen n fl s′ i)
     cells : (i : ℕ) → i < n → (i ≡ t → ⊥) → at (s′ .queues i) ≡ at (s .queues i)
+    backs : (i : ℕ) → i < n → (i ≡ t → ⊥) → s′ .queues i .back ≡ s .queues i .back
     others : (u : ℕ) → (u ≡ t → ⊥) → s′ .stages u ≡ s .stages u
     aware : Aware n fl s′ t (s′ .stages t)
 
-  aware-on : (s s′ : State) (u : ℕ) → ((i : ℕ) → i < n → Ev (fl i) (seen n fl s i) (seen n fl s′ i)) → at (s′ .queues u) ≡ at (s .queues u) → (x : Stage)
+  aware-on : (s s′ : State) (u : ℕ) → ((i : ℕ) → i < n → Ev (fl i) (seen n fl s i) (seen n fl s′ i)) → at (s′ .queues u) ≡ at (s .queues u) → s′ .queues u .back ≡ s .queues u .back → (x : Stage)
       → Aware n fl s u x → Aware n fl s′ u x
-  aware-on s s′ u e c idle w = tt
-  aware-on s s′ u e c (push x p) w = tt
-  aware-on s s′ u e c (fifoPop a p) w = tt
-  aware-on s s′ u e c (lifoPop a p) w = tt
-  aware-on s s′ u e c (shrink a v z) w = tt
-  aware-on s s′ u e c (steal k p) w = (w .0, stable-steal (fl k) p (seen n fl s k) (seen n fl s′ k) (e k (w .0)) (w .1))
-  aware-on s s′ u e c (len k p) w = w
-  aware-on s s′ u e c (ownBatch p) w = tt
-  aware-on s s′ u e c (source k p) w =
+  aware-on s s′ u e c d idle w = tt
+  aware-on s s′ u e c d (push x p) w = tt
+  aware-on s s′ u e c d (fifoPop a p) w = tt
+  aware-on s s′ u e c d (lifoPop a p) w = tt
+  aware-on s s′ u e c d (shrink a v z) w = tt
+  aware-on s s′ u e c d (steal k p) w = (w .0, stable-steal (fl k) p (seen n fl s k) (seen n fl s′ k) (e k (w .0)) (w .1))
+  aware-on s s′ u e c d (len k p) w = (w .0, λ h. subst (LengthKnows p) (ap (λ (i : ℕ). s .queues i .back) h ∙ sym d ∙ ap (λ (i : ℕ). s′ .queues i .back) (sym h)) (w .1 h))
+  aware-on s s′ u e c d (ownBatch p) w = tt
+  aware-on s s′ u e c d (source k p) w =
       (w .0, w .1, rw c (stable-source (fl k) (fl u) (at (s .queues u)) (seen n fl s k) (seen n fl s′ k) (e k (w .0)) p (w .2)))
-  aware-on s s′ u e c (own k p) w =
+  aware-on s s′ u e c d (own k p) w =
       (w .0, w .1, rw c (stable-own (fl k) (fl u) (at (s .queues u)) (seen n fl s k) (seen n fl s′ k) (e k (w .0)) p (w .2)))
 
   framed : (mem mem′ : ℕ → ℕ) (s s′ : State) (t : ℕ) → Inv n fl mem s → Frame s s′ t → ((u : ℕ) → (u ≡ t → ⊥) → mem′ u ≡ mem u)
@@ -54,7 +55,7 @@ module _ (n : ℕ) (fl : ℕ → Flavour) where
     where
       go : (u : ℕ) → u < n → Dec (u ≡ t) → Aware n fl s′ u (s′ .stages u)
       go u h (yes e) = rw e (f .aware)
-      go u h (no d) = rw (f .others u d) (aware-on s s′ u (f .evs) (f .cells u h d) (s .stages u) (v .aware u h))
+      go u h (no d) = rw (f .others u d) (aware-on s s′ u (f .evs) (f .cells u h d) (f .backs u h d) (s .stages u) (v .aware u h))
 
       to : (u : ℕ) → u < n → Dec (u ≡ t) → Says (mem′ u) (s′ .stages u)
       to u h (yes e) = rw e b
@@ -82,6 +83,7 @@ module _ (n : ℕ) (fl : ℕ → Flavour) where
       evs = each (λ (i : ℕ). Ev (fl i) (seen n fl s i) (seen n fl s′ i)) t (rw (e, f) (g .ev))
           (λ i h d. rw (a i d, b i d) (ev-refl (fl i) (seen n fl s i)));
       cells = λ i h d. ap at (b i d);
+      backs = λ i h d. ap (λ (q : Queue). q .back) (b i d);
       others = a;
       aware = rw e w;
     } (λ u d. refl) (rw e (g .says (mem t) (v .says t l)));
@@ -123,6 +125,7 @@ module _ (n : ℕ) (fl : ℕ → Flavour) where
               (rw (e, b t d′, z, g .own-lo, g .own-hi) (ev-refl (fl t) (view (source k p) (s .queues t)))) (rw (a k d, f) (g .ev))
               (λ i m x y. rw (a i x, b i y) (ev-refl (fl i) (seen n fl s i)));
           cells = λ i m x. there i x (ℕ-discrete i k);
+          backs = λ i m x. still-back i (ℕ-discrete i k);
           others = a;
           aware = rw e (aft-aware s′ t k h d (o .stage) (rw (a k d, f, b t d′) (g .after)));
         } (λ u x. refl) (rw e (g .says (mem t)));
@@ -139,6 +142,10 @@ module _ (n : ℕ) (fl : ℕ → Flavour) where
       there : (i : ℕ) → (i ≡ t → ⊥) → Dec (i ≡ k) → at (s′ .queues i) ≡ at (s .queues i)
       there i x (yes y) = rw (y, f) (g .cells)
       there i x (no y) = ap at (b i y)
+
+      still-back : (i : ℕ) → Dec (i ≡ k) → s′ .queues i .back ≡ s .queues i .back
+      still-back i (yes y) = rw (y, f) (g .backs)
+      still-back i (no y) = ap (λ (q : Queue). q .back) (b i y)
 
       was : (j : ℕ) → amountAt n fl s j t ≡ stand (at (s .queues t)) (s .queues t .front) (s .queues t .back) j + held (source k p) (s .queues t) j
       was j = rw z
@@ -195,14 +202,14 @@ module _ (n : ℕ) (fl : ℕ → Flavour) where
   from-neutral k (source i p) f = f
   from-neutral k (own i p) f = f
 
-  from-aware : (s : State) (t k : ℕ) (x : Stage) → k < n → From k x → Knows (fl k) x (seen n fl s k) → Aware n fl s t x
+  from-aware : (s : State) (t k : ℕ) (x : Stage) → k < n → From k x → Knows (fl k) x (seen n fl s k) (s .queues k .back) → Aware n fl s t x
   from-aware s t k idle l f w = tt
   from-aware s t k (push x p) l f w = tt
   from-aware s t k (fifoPop a p) l f w = tt
   from-aware s t k (lifoPop a p) l f w = tt
   from-aware s t k (shrink a v z) l f w = tt
   from-aware s t k (steal i p) l f w = rw f (l, w)
-  from-aware s t k (len i p) l f w = rw f l
+  from-aware s t k (len i p) l f w = rw f (l, λ e. w)
   from-aware s t k (ownBatch p) l f w = tt
   from-aware s t k (source i p) l f w = absurd f
   from-aware s t k (own i p) l f w = absurd f
@@ -236,6 +243,7 @@ module _ (n : ℕ) (fl : ℕ → Flavour) where
           evs = λ i m. rw (view-like s s′ t c c′ a (s′ .queues i) i m)
               (each (λ (i : ℕ). Ev (fl i) (seen n fl s i) (view (s .stages i) (s′ .queues i))) k (rw f (g .ev)) (λ i m d. rw (b i d) (ev-refl (fl i) (seen n fl s i))) i m);
           cells = λ i m x. there i (ℕ-discrete i k);
+          backs = λ i m x. still-back i (ℕ-discrete i k);
           others = a;
           aware = rw e (from-aware s′ t k (o .stage) h (g .from) (rw (view-like s s′ t c c′ a (s′ .queues k) k h, f) (g .knows)));
         } (λ u x. refl) (at-rest (s′ .stages t) (s′ .queues t) c′ .mute (mem t));
@@ -247,6 +255,10 @@ module _ (n : ℕ) (fl : ℕ → Flavour) where
       there : (i : ℕ) → Dec (i ≡ k) → at (s′ .queues i) ≡ at (s .queues i)
       there i (yes y) = rw (y, f) (g .cells)
       there i (no y) = ap at (b i y)
+
+      still-back : (i : ℕ) → Dec (i ≡ k) → s′ .queues i .back ≡ s .queues i .back
+      still-back i (yes y) = rw (y, f) (g .backs)
+      still-back i (no y) = ap (λ (q : Queue). q .back) (b i y)
 
   -- ---- step
 
@@ -294,7 +306,7 @@ module _ (n : ℕ) (fl : ℕ → Flavour) where
       looking mem s t k (stealStep k p (s .queues k)) v l (w .0) (rw e tt) (steal-fair (fl k) k (s .stages k) (s .queues k) (v .oks k (w .0)) p (w .1))
   step-from mem s t g (len k p) v l e b =
       let h : Aware n fl s t (len k p) = rw e at (v .aware t l) in
-      looking mem s t k (lengthStep k p (s .queues k)) v l h (rw e tt) (length-fair (fl k) k (s .stages k) (s .queues k) (v .oks k h) p)
+      looking mem s t k (lengthStep k p (s .queues k)) v l (h .0) (rw e tt) (length-fair (fl k) k (s .stages k) (s .queues k) (v .oks k (h .0)) p)
   step-from mem s t g (ownBatch p) v l e b =
       looking mem s t t (ownBatchStep p (s .queues t)) v l l (rw e tt) (own-batch-fair (fl t) t (s .stages t) (s .queues t) (v .oks t l) p)
   step-from mem s t g (source k p) v l e b =
@@ -333,6 +345,7 @@ module _ (n : ℕ) (fl : ℕ → Flavour) where
           evs = each (λ (i : ℕ). Ev (fl i) (seen n fl s i) (seen n fl s′ i)) t (rw (z, e, a, b) (ev-refl (fl t) (view idle (s .queues t))))
               (λ i h d. rw (upd-other (s .stages) t x i d) (ev-refl (fl i) (seen n fl s i)));
           cells = λ i h d. refl;
+          backs = λ i h d. refl;
           others = λ i d. upd-other (s .stages) t x i d;
           aware = rw z w;
         } q (rw z y);
@@ -355,7 +368,7 @@ module _ (n : ℕ) (fl : ℕ → Flavour) where
   begin-kept m mem s t (do-push x) v l e h =
       starts m mem (upd mem t x) s t (push x push-back) v l e refl refl (λ j. refl) tt (λ u d. upd-other mem t x u d) (upd-same mem t x t refl) tt
   begin-kept m mem s t do-pop v l e h = start-pop (fl t) byPop m mem s t refl v l e
-  begin-kept m mem s t (do-length k) v l e h = starts m mem mem s t (len k length-back) v l e refl refl (λ j. refl) tt (λ u d. refl) tt h
+  begin-kept m mem s t (do-length k) v l e h = starts m mem mem s t (len k length-back) v l e refl refl (λ j. refl) tt (λ u d. refl) tt (h, λ z. tt)
   begin-kept m mem s t (do-steal k) v l e h = starts m mem mem s t (steal k steal-front) v l e refl refl (λ j. refl) tt (λ u d. refl) tt (h, tt)
   begin-kept m mem s t (do-batch c k others) v l e h =
       by-test (λ (x : Stage). Kept n fl m mem s (record { stages = upd (s .stages) t x; queues = s .queues }) working) (eqb k t) _ _ (λ z. start-own m mem s t c v l e)

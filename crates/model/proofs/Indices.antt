@@ -274,7 +274,7 @@ module _ (n : ℕ) (fl : ℕ → Flavour) where
       source-slow c s t k (stealStep k p (s .queues k)) b (rw e (slow-steal (suc c) (s .queues k) (i .0) (omega (arith, i .1)) k p))
   step-from c mem s t g (len k p) v b l e h =
       let w : Aware n fl s t (len k p) = rw e at (v .aware t l) in
-      let i = indices c mem s v b k w in
+      let i = indices c mem s v b k (w .0) in
       source-slow c s t k (lengthStep k p (s .queues k)) b (rw e (slow-length (suc c) (s .queues k) (i .0) (omega (arith, i .1)) k p))
   step-from c mem s t g (ownBatch p) v b l e h =
       let i = indices c mem s v b t l in

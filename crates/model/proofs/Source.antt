@@ -25,6 +25,7 @@ pub record Rob (fs fo : Flavour) (k : ℕ) (s : Stage) (q : Queue) (p : SourceSt
   pub ok : Ok fs s (o .queue)
   pub ev : Ev fs (view s q) (view s (o .queue))
   pub cells : at (o .queue) ≡ at q
+  pub backs : o .queue .back ≡ q .back
   pub own-ok : Ok fo (o .stage) mq
   pub own-lo : lo (o .stage) mq ≡ mq .front
   pub own-hi : hi (o .stage) mq ≡ mq .back
@@ -45,6 +46,7 @@ module _ (fs fo : Flavour) (k : ℕ) (s : Stage) (q : Queue) (o : Ok fs s q) (mq
     ok = o;
     ev = ev-refl fs (view s q);
     cells = refl;
+    backs = refl;
     own-ok = ok-as fo (source k p) x mq mo e f l;
     own-lo = e;
     own-hi = f;
@@ -61,6 +63,7 @@ module _ (fs fo : Flavour) (k : ℕ) (s : Stage) (q : Queue) (o : Ok fs s q) (mq
     ok = g .ok;
     ev = g .ev;
     cells = refl;
+    backs = refl;
     own-ok = ok-as fo (source k p) x mq mo e h l;
     own-lo = e;
     own-hi = h;
@@ -124,6 +127,7 @@ module _ (fs fo : Flavour) (k : ℕ) (s : Stage) (q : Queue) (o : Ok fs s q) (mq
         ok = g .ok;
         ev = g .ev;
         cells = refl;
+        backs = refl;
         own-ok = ok-as fo (source k (all-exchange h)) (own k (own-store h)) mq mo refl refl (mo .stage);
         own-lo = refl;
         own-hi = refl;

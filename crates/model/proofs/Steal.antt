@@ -10,7 +10,7 @@ use Rattle.model.specs.Stage.{steal-reload, steal-exchange, LengthStage,
 use Rattle.model.specs.Stage.{shrink, steal, len, ownBatch, Answer, working, empty, success, retry, moved, twoNumbers, Out, out, ended}
 use Rattle.model.specs.Tables.{stealStep, lengthStep, ownBatchStep}
 use Rattle.model.specs.Logical.{amount, accepts, gives}
-use Rattle.model.specs.Invariant.{Ok, View, view, Ev, wide, StealKnows}
+use Rattle.model.specs.Invariant.{Ok, View, view, Ev, wide, StealKnows, LengthKnows}
 use Rattle.model.proofs.Stable.{ev-refl, span-of}
 use Rattle.model.proofs.Exchange.{won}
 
@@ -27,17 +27,18 @@ From k (ownBatch p) = Unit
 From k (source i p) = ⊥
 From k (own i p) = ⊥
 
-abbrev pub Knows : Flavour → Stage → View → Type 0
-Knows fl idle v = Unit
-Knows fl (push x p) v = ⊥
-Knows fl (fifoPop w p) v = ⊥
-Knows fl (lifoPop w p) v = ⊥
-Knows fl (shrink w x z) v = ⊥
-Knows fl (steal k p) v = StealKnows fl p v
-Knows fl (len k p) v = Unit
-Knows fl (ownBatch p) v = Unit
-Knows fl (source k p) v = ⊥
-Knows fl (own k p) v = ⊥
+-- back: the queue's
+abbrev pub Knows : Flavour → Stage → View → (back : ℕ) → Type 0
+Knows fl idle v back = Unit
+Knows fl (push x p) v back = ⊥
+Knows fl (fifoPop w p) v back = ⊥
+Knows fl (lifoPop w p) v back = ⊥
+Knows fl (shrink w x z) v back = ⊥
+Knows fl (steal k p) v back = StealKnows fl p v
+Knows fl (len k p) v back = LengthKnows p back
+Knows fl (ownBatch p) v back = Unit
+Knows fl (source k p) v back = ⊥
+Knows fl (own k p) v back = ⊥
 
 -- s, q: the queue's owner and the queue
 pub record Fair (fl : Flavour) (k : ℕ) (s : Stage) (q : Queue) (o : Out) : Type 0 where
@@ -46,16 +47,17 @@ pub record Fair (fl : Flavour) (k : ℕ) (s : Stage) (q : Queue) (o : Out) : Typ
   pub cells : at (o .queue) ≡ at q
   pub bal : (m j : ℕ) → accepts m (o .answer) j + amount s q j ≡ gives (o .answer) j + amount s (o .queue) j
   pub from : From k (o .stage)
-  pub knows : Knows fl (o .stage) (view s (o .queue))
+  pub backs : o .queue .back ≡ q .back
+  pub knows : Knows fl (o .stage) (view s (o .queue)) (o .queue .back)
 
 module _ (fl : Flavour) (k : ℕ) (s : Stage) (q : Queue) (o : Ok fl s q) where
-  look : (x : Stage) (a : Answer) → ((m j : ℕ) → accepts m a j ≡ gives a j) → From k x → Knows fl x (view s q) → Fair fl k s q (out q x a)
-  look x a h f w = record { ok = o; ev = ev-refl fl (view s q); cells = refl; bal = λ m j. omega (arith, h m j); from = f; knows = w }
+  look : (x : Stage) (a : Answer) → ((m j : ℕ) → accepts m a j ≡ gives a j) → From k x → Knows fl x (view s q) (q .back) → Fair fl k s q (out q x a)
+  look x a h f w = record { ok = o; ev = ev-refl fl (view s q); cells = refl; bal = λ m j. omega (arith, h m j); from = f; backs = refl; knows = w }
 
   steal-won : (r f v : ℕ) → StealKnows fl (steal-exchange r f v) (view s q) → q .front ≡ f → Fair fl k s q (ended (setFront q (suc f)) (success v))
   steal-won r f v w e =
       let g = won fl s q f v o (w .0) (w .1) e in
-      record { ok = g .ok; ev = g .ev; cells = refl; bal = λ m j. omega (arith, g .bal j); from = tt; knows = tt }
+      record { ok = g .ok; ev = g .ev; cells = refl; bal = λ m j. omega (arith, g .bal j); from = tt; backs = refl; knows = tt }
 
   pub steal-fair : (p : StealStage) → StealKnows fl p (view s q) → Fair fl k s q (stealStep k p q)
   unfolding stealStep
@@ -80,7 +82,7 @@ module _ (fl : Flavour) (k : ℕ) (s : Stage) (q : Queue) (o : Ok fl s q) where
 
   pub length-fair : (p : LengthStage) → Fair fl k s q (lengthStep k p q)
   unfolding lengthStep
-  length-fair length-back = look (len k (length-front (q .back))) working (λ m j. refl) refl tt
+  length-fair length-back = look (len k (length-front (q .back))) working (λ m j. refl) refl refl
   length-fair (length-front b) = look idle (twoNumbers b (q .front)) (λ m j. refl) tt tt
 
   pub own-batch-fair : (p : LengthStage) → Fair fl k s q (ownBatchStep p q)

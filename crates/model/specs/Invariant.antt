@@ -7,10 +7,11 @@ use Rattle.model.specs.Stage.{Flavour, fifo, lifo, Queue, cell, at, cap,
 use Rattle.model.specs.Stage.{PushStage, push-back, push-front, push-resize, push-write, push-store, FifoPopStage, fifo-back, fifo-front}
 use Rattle.model.specs.Stage.{fifo-add, fifo-restore, fifo-read, LifoPopStage, lifo-back, lifo-front, lifo-store, lifo-reload, lifo-restore}
 use Rattle.model.specs.Stage.{lifo-last, lifo-exchange, lifo-won, lifo-read, own, StealStage, steal-front, steal-back, steal-ring, steal-read}
-use Rattle.model.specs.Stage.{steal-reload, steal-exchange, Wanted, Haul, source, SourceStage, source-front, source-back, source-ring}
-use Rattle.model.specs.Stage.{source-first, all-copy, all-reload, all-exchange, one-first, one-back, one-read, one-reload, one-exchange}
-use Rattle.model.specs.Stage.{OwnStage, reserve-back, reserve-front, reserve-resize, own-back, all-write, one-write, swap-near, swap-far}
-use Rattle.model.specs.Stage.{swap-put, swap-last, own-store, Stage, idle, push, fifoPop, lifoPop, shrink, steal, len, ownBatch, Answer}
+use Rattle.model.specs.Stage.{steal-reload, steal-exchange, LengthStage, length-back, length-front, Wanted, Haul, source, SourceStage}
+use Rattle.model.specs.Stage.{source-front, source-back, source-ring, source-first, all-copy, all-reload, all-exchange, one-first, one-back}
+use Rattle.model.specs.Stage.{one-read, one-reload, one-exchange, OwnStage, reserve-back, reserve-front, reserve-resize, own-back, all-write}
+use Rattle.model.specs.Stage.{one-write, swap-near, swap-far, swap-put, swap-last, own-store, Stage, idle, push, fifoPop, lifoPop, shrink}
+use Rattle.model.specs.Stage.{steal, len, ownBatch, Answer}
 use Rattle.model.specs.Tables.{inHand, toHand}
 use Rattle.model.specs.Machine.{ownQueue, owner, State}
 use Rattle.model.specs.Logical.{lo, hi, handOf, amount, accepts, gives, Says}
@@ -224,6 +225,11 @@ SourceKnows fs fo (one-read h i) mine v = Single fs v h
 SourceKnows fs fo (one-reload h i x) mine v = Single fs v h × (v .ring ≡ h .ring → Has v (h .f) x)
 SourceKnows fs fo (one-exchange h i x) mine v = Single fs v h × Has v (h .f) x
 
+-- a length: of the own queue it has loaded the back that is there
+abbrev pub LengthKnows : LengthStage → ℕ → Type 0
+LengthKnows length-back back = Unit
+LengthKnows (length-front b) back = b ≡ back
+
 -- ---- the whole
 
 module _ (n : ℕ) (fl : ℕ → Flavour) where
@@ -239,7 +245,7 @@ module _ (n : ℕ) (fl : ℕ → Flavour) where
   Aware s t (lifoPop w p) = Unit
   Aware s t (shrink w v z) = Unit
   Aware s t (steal k p) = (k < n) × StealKnows (fl k) p (seen s k)
-  Aware s t (len k p) = k < n
+  Aware s t (len k p) = (k < n) × (k ≡ ownQueue t → LengthKnows p (s .queues k .back))
   Aware s t (ownBatch p) = Unit
   Aware s t (source k p) = (k < n) × (k ≡ ownQueue t → ⊥) × SourceKnows (fl k) (fl (ownQueue t)) p (at (s .queues (ownQueue t))) (seen s k)
   Aware s t (own k p) = (k < n) × (k ≡ ownQueue t → ⊥) × OwnKnows (fl k) (fl (ownQueue t)) p (at (s .queues (ownQueue t))) (seen s k)

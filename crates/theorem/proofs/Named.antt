@@ -6,9 +6,15 @@ use mathlib.Core.List.{List}
 use Prim.Native.Nat.{ℕ, suc, _^_, _≤_, _<_}
 use native.Mathlib.Omega.{arith}
 use lib.Dec.{T}
+use lib.IntN.{pos}
 use Rattle.base.specs.Tests.{le-or-lt}
 use Rattle.ring.specs.declared.Ring.{Ring}
 use Rattle.cells.specs.Cells.{placeCells}
+use Rattle.index.specs.declared.Index.{Index}
+use Rattle.index.specs.Index.{differenceOf, lengthOf}
+use Rattle.index.proofs.Laws.{difference-ahead, length-is}
+use Rattle.core.specs.declared.stage.LengthStage.the-variants as N
+use Rattle.core.specs.declared.stage.Stage.the-variants as G
 use Rattle.core.specs.declared.kept.Kept.{Kept as CodeKept}
 use Rattle.core.specs.declared.kept.Kept.the-variants as Q
 use Rattle.core.specs.Kept.{keptOf}
@@ -20,10 +26,12 @@ use Rattle.core.specs.declared.answer.Refusal.the-variants as K
 use Rattle.core.specs.declared.answer.Shortage.{Shortage}
 use Rattle.machine.specs.State.{After, after, refused, queueAt, stageAt}
 use Rattle.machine.specs.Step.{gateOf, stepGate, thenGate, passing, stepOf}
-use Rattle.model.specs.Stage.{Flavour, Queue, job, byPop, byBatch, Stage, Answer, working, done, nothing, empty, success, retry, moved, twoNumbers}
-use Rattle.model.specs.Stage.{tooLarge, noRing, Out}
+use Rattle.model.specs.Stage.{Flavour, Queue, cap, job, own, byPop, byBatch, length-back, length-front, source, Stage, idle, push, fifoPop, lifoPop}
+use Rattle.model.specs.Stage.{shrink, steal, len, ownBatch, Answer, working, done, nothing, empty, success, retry, moved, twoNumbers, tooLarge}
+use Rattle.model.specs.Stage.{noRing, Out}
 use Rattle.model.specs.Tables.{Offer}
 use Rattle.model.specs.Machine.{State, touched, busy, stepAt}
+use Rattle.model.specs.Invariant.{Ok, Aware}
 use Rattle.model.specs.Memory.{Held, Built, Live}
 use Rattle.model.specs.Early.{StillEarly}
 use Rattle.model.proofs.Indices.{indices}
@@ -32,7 +40,7 @@ use Rattle.model.proofs.GaveUp.{gave-up}
 use Rattle.link.specs.Map.{ix, stageFor, answerFor, offerFor}
 use Rattle.link.specs.Linked.{Behind}
 use Rattle.link.proofs.KeptLaws.{holds-kept, Keeping, keeps-nothing, keeps-held, keeps-built, keeping}
-use Rattle.link.proofs.TurnLaws.{idle-is, Turned, turn}
+use Rattle.link.proofs.TurnLaws.{idle-is, small, Turned, turn}
 use Rattle.theorem.proofs.OneCall.{to-T, gate-none, gate-in}
 
 -- the rings of a machine that are live: queue k's current ring, and what thread t keeps
@@ -168,3 +176,42 @@ module _ (n : ℕ) (fl : ℕ → Flavour) (jobs : ℕ → ℕ) (c : ℕ) (m : Ma
   unfolding stepOf
   gave-up-leaves lc t =
       ⊎-elim (λ h. rw (gate-none n fl jobs c lc m cells b t h) (λ e z. absurd (not-short K.NoSuch e z))) (λ h. gave-up-in lc t h (busy (s .stages t)) refl) (le-or-lt n t)
+
+  -- ---- the owner's length of the own queue
+
+  -- of the model's stages, a length of the own queue that has loaded the back is this one
+  asks : (R : ℕ → ℕ → Ring) (new : Ring) (t : ℕ) (i : Index) (x : Stage) → stageFor R new x ≡ G.Length t (N.LoadFront i)
+      → (b : ℕ) × (x ≡ len t (length-front b)) × (ix b ≡ i)
+  asks R new t i idle h = absurd (let z : _≡_ {A = ℕ} 0 1 = cc in let v : ⊥ = omega arith in v)
+  asks R new t i (push x p) h = absurd (let z : _≡_ {A = ℕ} 0 1 = cc in let v : ⊥ = omega arith in v)
+  asks R new t i (fifoPop w p) h = absurd (let z : _≡_ {A = ℕ} 0 1 = cc in let v : ⊥ = omega arith in v)
+  asks R new t i (lifoPop w p) h = absurd (let z : _≡_ {A = ℕ} 0 1 = cc in let v : ⊥ = omega arith in v)
+  asks R new t i (shrink w v x) h = absurd (let z : _≡_ {A = ℕ} 0 1 = cc in let v : ⊥ = omega arith in v)
+  asks R new t i (steal k p) h = absurd (let z : _≡_ {A = ℕ} 0 1 = cc in let v : ⊥ = omega arith in v)
+  asks R new t i (len k length-back) h = absurd (let z : _≡_ {A = ℕ} 0 1 = cc in let v : ⊥ = omega arith in v)
+  asks R new t i (len k (length-front b)) h =
+      let e : k ≡ t = cc in let f : ix b ≡ i = cc in (b, ap (λ (j : ℕ). len j (length-front b)) e, f)
+  asks R new t i (ownBatch p) h = absurd (let z : _≡_ {A = ℕ} 0 1 = cc in let v : ⊥ = omega arith in v)
+  asks R new t i (source k p) h = absurd (let z : _≡_ {A = ℕ} 0 1 = cc in let v : ⊥ = omega arith in v)
+  asks R new t i (own k p) h = absurd (let z : _≡_ {A = ℕ} 0 1 = cc in let v : ⊥ = omega arith in v)
+
+  -- a thread that asks after its own queue, and has loaded the back i: i is still the back, so what it is to answer is the number of jobs that
+  -- stand in the queue, and the difference is that number
+  pub own-length : c < 2 ^ 62 → (t : ℕ) (i : Index) → t < m .«queue_count» → stageAt m t ≡ G.Length t (N.LoadFront i)
+      → (i ≡ queueAt m t .back) × (differenceOf i (queueAt m t .front) ≡ pos (lengthOf i (queueAt m t .front)))
+      × (lengthOf i (queueAt m t .front) ≤ queueAt m t .ring .capacity)
+  own-length lc t i l h =
+      let lt : t < n = subst (λ (k : ℕ). t < k) (b .linked .count) l in
+      let a = asks (b .names) (b .names t (s .queues t .top)) t i (s .stages t) (sym (b .linked .stages t lt) ∙ h) in
+      let q : Queue = s .queues t in
+      let know : Aware n fl s t (len t (length-front (a .0))) = subst (Aware n fl s t) (a .1) (b .inv .aware t lt) in
+      let back : a .0 ≡ q .back = know .1 refl in
+      let o : Ok (fl t) (len t (length-front (a .0))) q = subst (λ (x : Stage). Ok (fl t) x q) (a .1) (b .inv .oks t lt) in
+      let is : i ≡ ix (q .back) = sym (a .2) ∙ ap ix back in
+      let sm = small n fl s m cells jobs (b .inv) c (b .bounded) lc t lt in
+      let or = o .order in
+      let fi = o .fits in
+      let ca : b .names t (q .ring) .capacity ≡ cap q = b .linked .caps t (q .ring) lt (o .ring-top) in
+      let d = difference-ahead (q .back) (q .front) (sm .1) (o .order) in
+      let n = length-is (q .back) (q .front) (sm .1) (sm .0) in
+      rw (b .linked .queues t lt, is) (refl, d ∙ ap pos (sym n), rw n (omega arith))
