@@ -6,8 +6,6 @@ use lib.Dec.{leb, eqb}
 use Rattle.index.specs.Index.{plusOf}
 use Rattle.index.proofs.Laws.{plus-is}
 use Rattle.ring.specs.declared.Ring.{Ring}
-use Rattle.core.specs.declared.stage.Stage.{Stage as CodeStage}
-use Rattle.core.specs.declared.out.Out.{Out as CodeOut}
 use Rattle.op_batch.specs.Haul as H
 use Rattle.model.specs.Stage.{Flavour, fifo, lifo, Queue, InHand, none, some, Haul}
 use Rattle.model.specs.Tables.{copying, withCount, inHand, copyNext, swapNext, landing, stopped, turning}

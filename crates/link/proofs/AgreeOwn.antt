@@ -9,14 +9,13 @@ use native.Mathlib.Numerals.{add-one}
 use lib.Dec.{leb}
 use borrow.Author.Tests.{le-leb, lt-leb}
 use Rattle.base.specs.Tests.{le-or-lt}
-use Rattle.index.specs.Index.{plusOf, lengthOf}
+use Rattle.index.specs.Index.{plusOf}
 use Rattle.index.proofs.Laws.{plus-is, length-is}
 use Rattle.ring.specs.declared.Ring.{Ring}
-use Rattle.ring.specs.Capacity.{largest, holdingOf}
+use Rattle.ring.specs.Capacity.{largest}
 use Rattle.ring.proofs.CapacityLaws.{holding-least, holding-over}
-use Rattle.cells.specs.Cells.{readOf}
 use Rattle.core.specs.declared.out.Claim.{Claim as CodeClaim}
-use Rattle.op_resize.specs.Resize.{Resizing, resizing, resizeOf}
+use Rattle.op_resize.specs.Resize.{resizing, resizeOf}
 use Rattle.op_batch.specs.Haul as H
 use Rattle.model.specs.Stage.{Flavour, fifo, lifo, Queue, cap, setCell, ResizeStage, own, Wanted, InHand, none, some, Haul, OwnStage, reserve-back}
 use Rattle.model.specs.Stage.{reserve-front, reserve-resize, own-back, all-write, one-write, swap-near, swap-far, swap-put, swap-last, own-store}

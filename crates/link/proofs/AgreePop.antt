@@ -7,13 +7,12 @@ use native.Mathlib.Omega.{arith}
 use lib.Dec.{leb, ltb, eqb}
 use borrow.Author.Tests.{le-leb, lt-ltb, leb-true, ltb-true}
 use Rattle.base.specs.Tests.{both}
-use Rattle.index.specs.Index.{plusOf, minusOf, emptyB, behindB, sameB, lengthOf}
+use Rattle.index.specs.Index.{minusOf, emptyB}
 use Rattle.index.proofs.Laws.{minus-is, empty-is, behind-is, same-is, length-is}
 use Rattle.ring.specs.declared.Ring.{Ring}
 use Rattle.ring.specs.Capacity.{smallest}
-use Rattle.cells.specs.Cells.{readOf}
 use Rattle.core.specs.declared.out.Claim.{Claim as CodeClaim}
-use Rattle.op_resize.specs.Resize.{Resizing, resizing, resizeOf}
+use Rattle.op_resize.specs.Resize.{resizing, resizeOf}
 use Rattle.model.specs.Stage.{Flavour, Queue, cap, ResizeStage, FifoPopStage, fifo-back, fifo-front, fifo-add, fifo-restore, fifo-read, LifoPopStage}
 use Rattle.model.specs.Stage.{lifo-back, lifo-front, lifo-store, lifo-reload, lifo-restore, lifo-last, lifo-exchange, job, lifo-won, lifo-read}
 use Rattle.model.specs.Stage.{Popper, byPop, byBatch, Stage, fifoPop, lifoPop, shrink, done, Out, going, ended}

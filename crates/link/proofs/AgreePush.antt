@@ -8,13 +8,12 @@ use native.Mathlib.Omega.{arith}
 use lib.Dec.{leb, ltb}
 use borrow.Author.Tests.{le-ltb, lt-ltb}
 use Rattle.base.specs.Tests.{le-or-lt}
-use Rattle.index.specs.Index.{plusOf, fullB}
 use Rattle.index.proofs.Laws.{full-is}
 use Rattle.ring.specs.declared.Ring.{Ring}
-use Rattle.ring.specs.Capacity.{largest, twiceOf}
+use Rattle.ring.specs.Capacity.{largest}
 use Rattle.ring.proofs.CapacityLaws.{twice-below, twice-above}
 use Rattle.core.specs.declared.out.Claim.{Claim as CodeClaim}
-use Rattle.op_resize.specs.Resize.{Resizing, resizing, resizeOf}
+use Rattle.op_resize.specs.Resize.{resizing, resizeOf}
 use Rattle.model.specs.Stage.{Flavour, Queue, cap, ResizeStage, PushStage, push-back, push-front, push-resize, push-write, push-store, Stage, push}
 use Rattle.model.specs.Stage.{noRing, Out, going, ended}
 use Rattle.model.specs.Tables.{Claim, Resized, more, failed, finished, resizeStep, resized, pushStep}

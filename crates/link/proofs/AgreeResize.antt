@@ -6,17 +6,15 @@ use mathlib.Core.List.{List}
 use Prim.Native.Nat.{ℕ, suc, _+_, _^_, _≤_, _<_}
 use native.Mathlib.Omega.{arith}
 use lib.Dec.{eqb}
-use Rattle.index.specs.Index.{plusOf, sameB}
+use Rattle.index.specs.Index.{plusOf}
 use Rattle.index.proofs.Laws.{plus-is, same-is}
 use Rattle.ring.specs.declared.Ring.{Ring}
 use Rattle.cells.specs.Cells.{readOf}
-use Rattle.core.specs.declared.queue.Flavor.{Flavor}
-use Rattle.core.specs.declared.queue.Queue.{Queue as CodeQueue}
 use Rattle.core.specs.declared.out.Claim.{Claim as CodeClaim}
 use Rattle.core.specs.declared.out.Claim.the-variants as J
 use Rattle.core.specs.declared.out.Resized.{Resized as CodeResized}
 use Rattle.core.specs.declared.out.Resized.the-variants as M
-use Rattle.op_resize.specs.Resize.{Resizing, resizing, resizeOf}
+use Rattle.op_resize.specs.Resize.{resizing, resizeOf}
 use Rattle.core.specs.Out.{left}
 use Rattle.advance.specs.Advance.{advanceOf}
 use Rattle.model.specs.Stage.{Flavour, Queue, at, cap, ResizeStage, resize-back, resize-front, resize-copy, resize-swap, Stage, Out}

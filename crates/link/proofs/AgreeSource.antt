@@ -5,8 +5,8 @@ use mathlib.Core.List.{List}
 use Prim.Native.Nat.{ℕ, suc, _+_, _-_, _^_, _≤_}
 use native.Mathlib.Omega.{arith}
 use lib.Dec.{leb, eqb}
-use Rattle.index.specs.Index.{plusOf, emptyB, sameB, lengthOf}
-use Rattle.index.proofs.Laws.{plus-is, empty-is, same-is, length-is}
+use Rattle.index.specs.Index.{plusOf, sameB}
+use Rattle.index.proofs.Laws.{empty-is, same-is, length-is}
 use Rattle.ring.specs.declared.Ring.{Ring}
 use Rattle.cells.specs.Cells.{readOf}
 use Rattle.core.specs.declared.out.Claim.{Claim as CodeClaim}

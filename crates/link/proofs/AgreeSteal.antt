@@ -4,7 +4,6 @@ use mathlib.Core.List.{List}
 use Prim.Native.Nat.{ℕ, suc, _^_, _≤_}
 use native.Mathlib.Omega.{arith}
 use lib.Dec.{leb, eqb}
-use Rattle.index.specs.Index.{plusOf, emptyB, sameB}
 use Rattle.index.proofs.Laws.{empty-is, same-is}
 use Rattle.ring.specs.declared.Ring.{Ring}
 use Rattle.cells.specs.Cells.{readOf}

@@ -12,22 +12,15 @@ use lib.Seq.{getD-set-same, getD-set-other}
 use borrow.Author.Tests.{ltb-true}
 use Rattle.base.specs.Tests.{by-test}
 use Rattle.ring.specs.declared.Ring.{Ring}
-use Rattle.core.specs.declared.queue.Flavor.{Flavor}
-use Rattle.core.specs.declared.queue.Flavor.the-variants.{Fifo, Lifo}
-use Rattle.core.specs.declared.stage.Stage.{Stage as CodeStage}
 use Rattle.core.specs.declared.stage.Stage.the-variants as G
 use Rattle.core.specs.declared.answer.Answer.the-variants as B
-use Rattle.core.specs.Stages.{idleB}
-use Rattle.sound.specs.Sound.{mostQueues, countsB}
+use Rattle.sound.specs.Sound.{mostQueues}
 use Rattle.machine.specs.declared.operation.Operation.{Operation as CodeOperation}
 use Rattle.machine.specs.declared.operation.Operation.the-variants as Q
-use Rattle.machine.specs.declared.operation.Gate.{Gate}
-use Rattle.machine.specs.declared.operation.Gate.the-variants.{Open, Shut}
 use Rattle.machine.specs.declared.state.Thread.{Thread}
 use Rattle.machine.specs.declared.state.Machine.{Machine}
-use Rattle.machine.specs.State.{After, after, idleThread, queueAt, stageAt, withStage}
-use Rattle.machine.specs.Step.{gateOf, thenGate, passing}
-use Rattle.machine.specs.Begin.{namesB, limitB, beginGate, beginOf}
+use Rattle.machine.specs.State.{after, idleThread, withStage}
+use Rattle.machine.specs.Begin.{namesB, limitB, beginOf}
 use Rattle.machine.specs.Begin as H
 use Rattle.model.specs.Count.{upd}
 use Rattle.model.specs.Stage.{Flavour, fifo, lifo, Popper, byPop, byBatch, BatchKind, plain, andPop, none, Stage, idle}

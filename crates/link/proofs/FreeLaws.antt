@@ -10,12 +10,10 @@ use borrow.Author.Tests.{eq-eqb}
 use Rattle.base.specs.Tests.{pick}
 use Rattle.base.specs.Below.{anyBelow, firstNot, any-at}
 use Rattle.ring.specs.declared.Ring.{Ring}
-use Rattle.core.specs.declared.kept.Kept.{Kept as CodeKept}
-use Rattle.core.specs.declared.kept.Kept.the-variants as Q
 use Rattle.core.specs.Kept.{keptOf}
 use Rattle.sound.specs.Sound.{keepsIn}
 use Rattle.machine.specs.declared.state.Machine.{Machine}
-use Rattle.machine.specs.State.{queueAt, stageAt}
+use Rattle.machine.specs.State.{queueAt}
 use Rattle.machine.specs.Claim.{usedBy, usedB, freePlace}
 use Rattle.model.specs.Stage.{Flavour}
 use Rattle.model.specs.Machine.{State}

@@ -3,7 +3,6 @@ use mathlib.Core.Path.{_≡_, refl}
 use Prim.Native.Nat.{ℕ}
 use native.Mathlib.Omega.{arith}
 use Rattle.ring.specs.declared.Ring.{Ring}
-use Rattle.core.specs.declared.kept.Kept.{Kept as CodeKept}
 use Rattle.core.specs.declared.kept.Kept.the-variants as Q
 use Rattle.core.specs.Kept.{resizeKeeps, pushKeeps, stealKeeps, sourceKeeps, ownKeeps, keptOf}
 use Rattle.model.specs.Stage.{ResizeStage, resize-back, resize-front, resize-copy, resize-swap, PushStage, push-back, push-front, push-resize}

@@ -9,15 +9,8 @@ use native.Mathlib.Decide.{ℕ-discrete}
 use lib.Dec.{eqb}
 use borrow.Author.Tests.{eq-eqb, ne-eqb}
 use Rattle.ring.specs.declared.Ring.{Ring}
-use Rattle.ring.specs.Capacity.{largest}
-use Rattle.cells.specs.Cells.{placeCells, readOf}
-use Rattle.core.specs.declared.kept.Kept.{Kept as CodeKept}
-use Rattle.core.specs.declared.kept.Kept.the-variants as Q
-use Rattle.core.specs.Kept.{keptOf}
-use Rattle.sound.specs.Sound.{ringSound, keepsIn}
+use Rattle.cells.specs.Cells.{readOf}
 use Rattle.machine.specs.declared.state.Machine.{Machine}
-use Rattle.machine.specs.State.{queueAt, stageAt}
-use Rattle.machine.specs.Claim.{usedBy, usedB, freePlace}
 use Rattle.model.specs.Stage.{Flavour, cell}
 use Rattle.model.specs.Machine.{State}
 use Rattle.model.specs.Invariant.{Inv}

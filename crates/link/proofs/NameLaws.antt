@@ -5,16 +5,6 @@ use mathlib.Core.List.{List}
 use Prim.Native.Nat.{ℕ, _<_}
 use native.Mathlib.Decide.{ℕ-discrete}
 use Rattle.ring.specs.declared.Ring.{Ring}
-use Rattle.core.specs.declared.queue.Queue.{Queue as CodeQueue}
-use Rattle.core.specs.declared.stage.Stage.{Stage as CodeStage}
-use Rattle.core.specs.declared.stage.ResizeStage.{ResizeStage as CodeResize}
-use Rattle.core.specs.declared.stage.PushStage.{PushStage as CodePush}
-use Rattle.core.specs.declared.stage.StealStage.{StealStage as CodeSteal}
-use Rattle.core.specs.declared.stage.SourceStage.{SourceStage as CodeSource}
-use Rattle.core.specs.declared.stage.OwnStage.{OwnStage as CodeOwn}
-use Rattle.core.specs.declared.stage.Stage.the-variants as G
-use Rattle.core.specs.declared.stage.PopStage.{PopStage as CodePop}
-use Rattle.core.specs.declared.stage.PopStage.the-variants as P
 use Rattle.machine.specs.declared.state.Machine.{Machine}
 use Rattle.model.specs.Count.{upd}
 use Rattle.model.specs.Stage.{Flavour, ResizeStage, resize-back, resize-front, resize-copy, resize-swap, PushStage, push-back, push-front}

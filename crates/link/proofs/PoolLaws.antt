@@ -12,13 +12,12 @@ use lib.ListN.{length, getD, set}
 use lib.Seq.{getD-set-same, getD-set-other}
 use borrow.Author.Tests.{le-ltb, lt-ltb, ltb-true}
 use Rattle.base.specs.Tests.{both, le-or-lt}
-use Rattle.index.specs.Index.{cellOf}
 use Rattle.index.proofs.Laws.{cell-of}
 use Rattle.ring.specs.declared.Ring.{Ring}
-use Rattle.ring.specs.Capacity.{smallest, largest, allowedB}
-use Rattle.ring.proofs.CapacityLaws.{Allowed, allowed-is}
+use Rattle.ring.specs.Capacity.{largest, allowedB}
+use Rattle.ring.proofs.CapacityLaws.{allowed-is}
 use Rattle.cells.specs.Cells.{placeCells, standsB, spot, readOf, writtenOf}
-use Rattle.cells.proofs.StandLaws.{Standing, standing, stands-placed, read-is, written-is, written-length}
+use Rattle.cells.proofs.StandLaws.{stands-placed, read-is, written-is}
 use Rattle.sound.specs.Sound.{ringSound}
 use Rattle.model.specs.Count.{upd}
 use Rattle.model.specs.Machine.{State}

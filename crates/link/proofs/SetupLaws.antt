@@ -10,15 +10,13 @@ use lib.ListN.{length, getD}
 use borrow.Author.Tests.{lt-ltb, leb-true}
 use Rattle.base.specs.Tests.{both}
 use Rattle.ring.specs.declared.Ring.{Ring}
-use Rattle.ring.specs.Capacity.{smallest, largest, allowedB}
+use Rattle.ring.specs.Capacity.{smallest}
 use Rattle.ring.proofs.CapacityLaws.{smallest-allowed}
 use Rattle.cells.specs.Cells.{placeCells}
 use Rattle.core.specs.declared.queue.Flavor.{Flavor}
 use Rattle.core.specs.declared.queue.Flavor.the-variants.{Fifo, Lifo}
-use Rattle.core.specs.declared.queue.Queue.{Queue as CodeQueue}
-use Rattle.sound.specs.Sound.{mostQueues, countsB, ringSound}
-use Rattle.machine.specs.declared.state.Machine.{Machine}
-use Rattle.machine.specs.State.{zeroQueue, queueAt, stageAt}
+use Rattle.sound.specs.Sound.{mostQueues, countsB}
+use Rattle.machine.specs.State.{queueAt, stageAt}
 use Rattle.machine.specs.Setup.{freshQueue, freshMachine}
 use Rattle.model.specs.Stage.{Flavour, at, idle}
 use Rattle.model.specs.Machine.{State}

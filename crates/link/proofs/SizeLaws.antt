@@ -8,8 +8,6 @@ use lib.Dec.{T, leb, ltb, eqb}
 use borrow.Author.Tests.{ltb-true}
 use Rattle.base.specs.Tests.{pick, by-test, tests, le-or-lt}
 use Rattle.ring.specs.declared.Ring.{Ring}
-use Rattle.ring.specs.declared.Capacity.{Capacity}
-use Rattle.ring.specs.declared.Capacity.the-variants as C
 use Rattle.ring.specs.Capacity.{smallest, largest, allowedB, twiceOf, holdingOf}
 use Rattle.ring.proofs.CapacityLaws.{twice-below, twice-above, twice-allowed, half-allowed, holding-least, holding-over, holding-allowed}
 use Rattle.core.specs.declared.out.Claim.{Claim as CodeClaim}

@@ -9,17 +9,14 @@ use native.Mathlib.Decide.{ℕ-discrete}
 use lib.Dec.{eqb}
 use borrow.Author.Tests.{le-leb, lt-ltb, eq-eqb, ne-eqb}
 use Rattle.base.specs.Below.{allBelow}
-use Rattle.index.specs.Index.{spansB}
 use Rattle.index.proofs.Laws.{spans-is}
 use Rattle.ring.specs.declared.Ring.{Ring}
-use Rattle.ring.specs.Capacity.{largest, allowedB}
-use Rattle.core.specs.declared.kept.Kept.{Kept as CodeKept}
-use Rattle.core.specs.declared.kept.Kept.the-variants as Q
+use Rattle.ring.specs.Capacity.{largest}
 use Rattle.core.specs.Kept.{keptOf}
-use Rattle.sound.specs.Sound.{ringSound, queueSound, keptSound, namedSound, resizeSound, pushSound, sourceSound, ownSound, numbersSound, stageSound, haulSound, buildsIn, bothBuild}
+use Rattle.sound.specs.Sound.{queueSound, keptSound, namedSound, resizeSound, pushSound, sourceSound, ownSound, numbersSound, stageSound, haulSound, buildsIn, bothBuild}
 use Rattle.machine.specs.declared.state.Machine.{Machine}
 use Rattle.machine.specs.State.{queueAt, stageAt}
-use Rattle.machine.specs.Sound.{apartB, queuesSound, stagesSound, allApart, soundB}
+use Rattle.machine.specs.Sound.{apartB, soundB}
 use Rattle.model.specs.Stage.{Flavour, Queue, at, cap, ResizeStage, resize-back, resize-front, resize-copy, resize-swap, PushStage, push-back}
 use Rattle.model.specs.Stage.{push-front, push-resize, push-write, push-store, own, Haul, source, SourceStage, source-front, source-back, source-ring}
 use Rattle.model.specs.Stage.{source-first, all-copy, all-reload, all-exchange, one-first, one-back, one-read, one-reload, one-exchange, OwnStage}

@@ -9,12 +9,8 @@ use native.Mathlib.Decide.{ℕ-discrete}
 use lib.ListN.{length}
 use Rattle.ring.specs.declared.Ring.{Ring}
 use Rattle.ring.specs.declared.RingNumber.{RingNumber}
-use Rattle.ring.specs.Capacity.{largest, allowedB}
-use Rattle.cells.specs.Cells.{placeCells, readOf, writtenOf, copiedOf}
+use Rattle.cells.specs.Cells.{readOf, writtenOf, copiedOf}
 use Rattle.cells.proofs.StandLaws.{written-length}
-use Rattle.core.specs.declared.queue.Queue.{Queue as CodeQueue}
-use Rattle.core.specs.declared.stage.Stage.{Stage as CodeStage}
-use Rattle.core.specs.declared.out.Claim.{Claim as CodeClaim}
 use Rattle.sound.specs.Sound.{ringSound}
 use Rattle.machine.specs.declared.state.Machine.{Machine}
 use Rattle.model.specs.Count.{upd}

@@ -12,7 +12,6 @@ use borrow.Author.Tests.{leb-true}
 use Rattle.base.specs.Tests.{both}
 use Rattle.ring.specs.declared.Ring.{Ring}
 use Rattle.ring.specs.declared.RingNumber.{RingNumber}
-use Rattle.cells.specs.Cells.{placeCells}
 use Rattle.core.specs.declared.queue.Queue.{Queue as CodeQueue}
 use Rattle.core.specs.declared.stage.Stage.{Stage as CodeStage}
 use Rattle.core.specs.declared.out.Claim.{Claim as CodeClaim}
@@ -20,7 +19,7 @@ use Rattle.core.specs.declared.out.Claim.the-variants as J
 use Rattle.sound.specs.Sound.{mostQueues, countsB, ringSound}
 use Rattle.machine.specs.declared.state.Thread.{Thread}
 use Rattle.machine.specs.declared.state.Machine.{Machine}
-use Rattle.machine.specs.State.{zeroQueue, idleThread, queueAt, stageAt, withQueue, withStage, counted}
+use Rattle.machine.specs.State.{zeroQueue, idleThread, withQueue, withStage, counted}
 use Rattle.model.specs.Count.{upd}
 use Rattle.model.specs.Stage.{Flavour, Out}
 use Rattle.model.specs.Machine.{State, stored}

@@ -12,28 +12,19 @@ use lib.ListN.{length}
 use lib.Seq.{getD-set-same, getD-set-other}
 use borrow.Author.Tests.{lt-ltb, eq-eqb, ltb-true}
 use Rattle.base.specs.Tests.{tests}
-use Rattle.index.specs.declared.Index.{Index}
 use Rattle.ring.specs.declared.Ring.{Ring}
-use Rattle.ring.specs.declared.RingNumber.{RingNumber}
-use Rattle.ring.specs.declared.PlaceNumber.{PlaceNumber}
 use Rattle.ring.specs.Capacity.{allowedB}
-use Rattle.cells.specs.Cells.{placeCells, readOf}
-use Rattle.core.specs.declared.queue.Queue.{Queue as CodeQueue}
-use Rattle.core.specs.declared.stage.Stage.{Stage as CodeStage}
+use Rattle.cells.specs.Cells.{placeCells}
 use Rattle.core.specs.declared.out.Claim.{Claim as CodeClaim}
 use Rattle.core.specs.declared.out.Claim.the-variants as J
-use Rattle.core.specs.Out.{Left, left}
+use Rattle.core.specs.Out.{left}
 use Rattle.core.specs.Stages.{touchedOf, idleB, claimsB}
-use Rattle.sound.specs.Sound.{ringSound}
 use Rattle.advance.specs.Advance.{advanceOf}
-use Rattle.machine.specs.declared.operation.Gate.{Gate}
-use Rattle.machine.specs.declared.operation.Gate.the-variants.{Open, Shut}
+use Rattle.machine.specs.declared.operation.Gate.the-variants.{Open}
 use Rattle.machine.specs.declared.state.Machine.{Machine}
-use Rattle.machine.specs.State.{After, after, zeroQueue, queueAt, stageAt, withQueue, withStage, counted}
-use Rattle.machine.specs.Sound.{soundB}
+use Rattle.machine.specs.State.{after, zeroQueue, queueAt, counted}
 use Rattle.machine.specs.Claim.{freePlace, freeRing, claimOf}
-use Rattle.machine.specs.Step.{gateOf, stepGate, thenGate, passing, ran, stepOf}
-use Rattle.machine.specs.Step as M
+use Rattle.machine.specs.Step.{gateOf, ran, stepOf}
 use Rattle.model.specs.Stage.{Flavour, Queue, cap, ResizeStage, resize-back, resize-front, resize-copy, resize-swap, PushStage, push-back, push-front}
 use Rattle.model.specs.Stage.{push-resize, push-write, push-store, own, Popper, source, OwnStage, reserve-back, reserve-front, reserve-resize}
 use Rattle.model.specs.Stage.{own-back, all-write, one-write, swap-near, swap-far, swap-put, swap-last, own-store, Stage, idle, push, fifoPop}

@@ -55,7 +55,6 @@ use Rattle.core.specs.declared.answer.Shortage.the-variants.{TooLarge, NoRing}
 use Rattle.core.specs.declared.out.Claim.{Claim as CodeClaim}
 use Rattle.core.specs.declared.out.Claim.the-variants as J
 use Rattle.core.specs.declared.out.Out.{Out as CodeOut}
-use Rattle.core.specs.Out.{Left, left}
 use Rattle.machine.specs.declared.operation.Operation.{Operation as CodeOperation}
 use Rattle.machine.specs.declared.operation.Operation.the-variants as Q
 use Rattle.model.specs.Stage.{Flavour, fifo, lifo, Queue, cap, ResizeStage, resize-back, resize-front, resize-copy, resize-swap, PushStage, push-back}

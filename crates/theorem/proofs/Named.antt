@@ -9,23 +9,20 @@ use lib.Dec.{T}
 use lib.IntN.{pos}
 use Rattle.base.specs.Tests.{le-or-lt}
 use Rattle.ring.specs.declared.Ring.{Ring}
-use Rattle.cells.specs.Cells.{placeCells}
 use Rattle.index.specs.declared.Index.{Index}
 use Rattle.index.specs.Index.{differenceOf, lengthOf}
 use Rattle.index.proofs.Laws.{difference-ahead, length-is}
 use Rattle.core.specs.declared.stage.LengthStage.the-variants as N
 use Rattle.core.specs.declared.stage.Stage.the-variants as G
-use Rattle.core.specs.declared.kept.Kept.{Kept as CodeKept}
 use Rattle.core.specs.declared.kept.Kept.the-variants as Q
 use Rattle.core.specs.Kept.{keptOf}
 use Rattle.machine.specs.declared.state.Machine.{Machine}
-use Rattle.core.specs.declared.answer.Answer.{Answer as CodeAnswer}
 use Rattle.core.specs.declared.answer.Answer.the-variants as B
 use Rattle.core.specs.declared.answer.Refusal.{Refusal}
 use Rattle.core.specs.declared.answer.Refusal.the-variants as K
 use Rattle.core.specs.declared.answer.Shortage.{Shortage}
-use Rattle.machine.specs.State.{After, after, refused, queueAt, stageAt}
-use Rattle.machine.specs.Step.{gateOf, stepGate, thenGate, passing, stepOf}
+use Rattle.machine.specs.State.{After, queueAt, stageAt}
+use Rattle.machine.specs.Step.{stepOf}
 use Rattle.model.specs.Stage.{Flavour, Queue, cap, job, own, byPop, byBatch, length-back, length-front, source, Stage, idle, push, fifoPop, lifoPop}
 use Rattle.model.specs.Stage.{shrink, steal, len, ownBatch, Answer, working, done, nothing, empty, success, retry, moved, twoNumbers, tooLarge}
 use Rattle.model.specs.Stage.{noRing, Out}

@@ -9,22 +9,18 @@ use lib.Dec.{T}
 use lib.ListN.{length}
 use borrow.Author.Tests.{le-ltb, eq-eqb, ne-eqb}
 use Rattle.base.specs.Tests.{le-or-lt}
-use Rattle.ring.specs.declared.Ring.{Ring}
 use Rattle.cells.specs.Cells.{placeCells}
-use Rattle.core.specs.declared.stage.Stage.{Stage as CodeStage}
-use Rattle.core.specs.declared.answer.Answer.{Answer as CodeAnswer}
 use Rattle.core.specs.declared.answer.Answer.the-variants as B
 use Rattle.core.specs.declared.answer.Refusal.{Refusal}
 use Rattle.core.specs.declared.answer.Refusal.the-variants as K
 use Rattle.core.specs.Stages.{idleB}
 use Rattle.machine.specs.declared.operation.Operation.{Operation as CodeOperation}
 use Rattle.machine.specs.declared.operation.Operation.the-variants as O
-use Rattle.machine.specs.declared.operation.Gate.{Gate}
 use Rattle.machine.specs.declared.operation.Gate.the-variants.{Open, Shut}
 use Rattle.machine.specs.declared.state.Machine.{Machine}
-use Rattle.machine.specs.State.{After, after, refused, queueAt, stageAt}
+use Rattle.machine.specs.State.{After, refused, stageAt}
 use Rattle.machine.specs.Sound.{soundB}
-use Rattle.machine.specs.Step.{gateOf, stepGate, thenGate, passing, stepOf}
+use Rattle.machine.specs.Step.{gateOf, stepOf}
 use Rattle.machine.specs.Begin.{namesB, limitB, beginGate, beginOf}
 use Rattle.model.specs.Stage.{Flavour, job, own, byPop, byBatch, source, Stage, idle, push, fifoPop, lifoPop, shrink, steal, len, ownBatch, Answer}
 use Rattle.model.specs.Stage.{working, done, nothing, empty, success, retry, moved, twoNumbers, tooLarge, noRing}

@@ -9,27 +9,21 @@ use lib.Dec.{eqb}
 use lib.ListN.{length}
 use borrow.Author.Tests.{eqb-true}
 use Rattle.base.specs.Tests.{le-or-lt}
-use Rattle.index.specs.declared.Index.{Index}
-use Rattle.index.specs.Index.{plusOf, lengthOf}
+use Rattle.index.specs.Index.{plusOf}
 use Rattle.index.proofs.Laws.{plus-is, length-is}
-use Rattle.ring.specs.declared.Ring.{Ring}
 use Rattle.cells.specs.Cells.{placeCells, readOf}
 use Rattle.core.specs.declared.queue.Flavor.{Flavor}
-use Rattle.core.specs.declared.queue.Queue.{Queue as CodeQueue}
-use Rattle.core.specs.declared.stage.Stage.{Stage as CodeStage}
-use Rattle.core.specs.declared.stage.Stage.the-variants as G
-use Rattle.core.specs.declared.answer.Answer.{Answer as CodeAnswer}
 use Rattle.core.specs.declared.answer.Answer.the-variants as B
 use Rattle.core.specs.declared.answer.Refusal.the-variants as K
 use Rattle.core.specs.declared.out.Claim.{Claim as CodeClaim}
 use Rattle.core.specs.declared.out.Claim.the-variants as J
-use Rattle.core.specs.Stages.{idleB, touchedOf}
+use Rattle.core.specs.Stages.{idleB}
 use Rattle.sound.specs.Sound.{countsB}
 use Rattle.machine.specs.declared.operation.Operation.{Operation as CodeOperation}
 use Rattle.machine.specs.declared.operation.Gate.{Gate}
 use Rattle.machine.specs.declared.operation.Gate.the-variants.{Open, Shut}
 use Rattle.machine.specs.declared.state.Machine.{Machine}
-use Rattle.machine.specs.State.{After, after, refused, queueAt, stageAt, counted}
+use Rattle.machine.specs.State.{After, after, queueAt, stageAt, counted}
 use Rattle.machine.specs.Setup.{freshMachine, setupOf}
 use Rattle.machine.specs.Claim.{claimOf}
 use Rattle.machine.specs.Step.{gateOf, stepGate, thenGate, passing, ran, stepOf}

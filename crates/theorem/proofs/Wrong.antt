@@ -6,12 +6,10 @@ use Prim.Native.Nat.{ℕ, zero, suc}
 use native.Mathlib.Omega.{arith}
 use lib.Dec.{T}
 use Rattle.steal.specs.declared.Steal.the-variants as T
-use Rattle.core.specs.declared.queue.Flavor.{Flavor}
 use Rattle.core.specs.declared.answer.Answer.the-variants as B
 use Rattle.machine.specs.declared.operation.Operation.the-variants as O
 use Rattle.machine.specs.declared.state.Machine.{Machine}
 use Rattle.machine.specs.State.{After, after}
-use Rattle.machine.specs.Setup.{zeroMachine}
 use Rattle.model.specs.Count.{one, upd}
 use Rattle.theorem.specs.History.{pool, accepted, answered, other, Call, begin, step, lentBy, lent, runBy, acceptedFrom, standing}
 
