@@ -23,6 +23,10 @@ use Rattle.model.specs.Invariant.{ResizeOk}
 use Rattle.model.specs.Memory.{noteResize, note}
 use Rattle.link.specs.Map.{ix, flavorOf, resizeAt, stageFor, queueFor, outFor, noted, ClaimIs}
 
+-- a test does not find both
+pub true-false : true ≡ false → ⊥
+true-false e = let z : _≡_ {A = ℕ} 0 1 = cc in omega arith
+
 -- by cases on a test
 pub either : {G : Type 0} (b : Bool) → (b ≡ true → G) → (b ≡ false → G) → G
 either true x y = x refl

@@ -20,10 +20,11 @@ use Rattle.model.specs.Machine.{State}
 use Rattle.model.specs.Memory.{Held, Built, Live, Free}
 use Rattle.link.specs.Map.{stageFor}
 use Rattle.link.specs.Linked.{placesOf, Linked}
+use Rattle.link.proofs.AgreeResize.{true-false}
 use Rattle.link.proofs.KeptLaws.{holds-kept, builds-kept}
 
 no-both : (b : Bool) → b ≡ true → b ≡ false → ⊥
-no-both b e f = let z : true ≡ false = sym e ∙ f in let y : _≡_ {A = ℕ} 0 1 = cc in omega arith
+no-both b e f = true-false (sym e ∙ f)
 
 -- the first of which f does not hold, where there is one
 first-free : (f : ℕ → Bool) (n i : ℕ) → firstNot f n i < i + n → f (firstNot f n i) ≡ false

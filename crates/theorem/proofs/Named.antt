@@ -12,11 +12,14 @@ use Rattle.ring.specs.declared.Ring.{Ring}
 use Rattle.index.specs.declared.Index.{Index}
 use Rattle.index.specs.Index.{differenceOf, lengthOf}
 use Rattle.index.proofs.Laws.{difference-ahead, length-is}
+use Rattle.core.specs.declared.stage.LengthStage.{LengthStage as CodeLength}
 use Rattle.core.specs.declared.stage.LengthStage.the-variants as N
+use Rattle.core.specs.declared.stage.Stage.{Stage as CodeStage}
 use Rattle.core.specs.declared.stage.Stage.the-variants as G
 use Rattle.core.specs.declared.kept.Kept.the-variants as Q
 use Rattle.core.specs.Kept.{keptOf}
 use Rattle.machine.specs.declared.state.Machine.{Machine}
+use Rattle.core.specs.declared.answer.Answer.{Answer as CodeAnswer}
 use Rattle.core.specs.declared.answer.Answer.the-variants as B
 use Rattle.core.specs.declared.answer.Refusal.{Refusal}
 use Rattle.core.specs.declared.answer.Refusal.the-variants as K
@@ -36,6 +39,7 @@ use Rattle.model.proofs.Places.{held-named, live-named}
 use Rattle.model.proofs.GaveUp.{gave-up}
 use Rattle.link.specs.Map.{ix, stageFor, answerFor, offerFor}
 use Rattle.link.specs.Linked.{Behind}
+use Rattle.link.proofs.AgreeResize.{true-false}
 use Rattle.link.proofs.KeptLaws.{holds-kept, Keeping, keeps-nothing, keeps-held, keeps-built, keeping}
 use Rattle.link.proofs.TurnLaws.{idle-is, small, Turned, turn}
 use Rattle.theorem.proofs.OneCall.{to-T, gate-none, gate-in}
@@ -45,6 +49,32 @@ pub data LiveRing (m : Machine) : Ring → Type 0 where
   current : (k : ℕ) → k < m .«queue_count» → LiveRing m (queueAt m k .ring)
   built : (t : ℕ) (r : Ring) → t < m .«queue_count» → keptOf (stageAt m t) ≡ Q.Built r → LiveRing m r
   held : (t : ℕ) (r : Ring) → t < m .«queue_count» → keptOf (stageAt m t) ≡ Q.Held r → LiveRing m r
+
+-- an answer is 8 or 9; a stage is a length's that has loaded the back
+abbrev gaveUpB : CodeAnswer → Bool
+gaveUpB B.Working = false
+gaveUpB B.Done = false
+gaveUpB (B.Job v) = false
+gaveUpB B.Nothing = false
+gaveUpB (B.Stolen a) = false
+gaveUpB B.Moved = false
+gaveUpB (B.Length d l) = false
+gaveUpB (B.GaveUp e) = true
+gaveUpB (B.Refused r) = false
+
+abbrev lengthB : CodeLength → Bool
+lengthB N.LoadBack = false
+lengthB (N.LoadFront b) = true
+
+abbrev asksB : CodeStage → Bool
+asksB G.Idle = false
+asksB (G.Push x p) = false
+asksB (G.Pop w p) = false
+asksB (G.Steal k p) = false
+asksB (G.Length k p) = lengthB p
+asksB (G.OwnBatch p) = false
+asksB (G.BatchSource k p) = false
+asksB (G.BatchOwn k p) = false
 
 module _ (n : ℕ) (fl : ℕ → Flavour) (jobs : ℕ → ℕ) (c : ℕ) (m : Machine) (cells : List ℕ) (b : Behind n fl jobs c m cells) where
   abbrev s : State
@@ -130,22 +160,22 @@ module _ (n : ℕ) (fl : ℕ → Flavour) (jobs : ℕ → ℕ) (c : ℕ) (m : Ma
 
   -- of the model's answers, 8 and 9 are these two
   short : (a : Answer) (x : Stage) (e : Shortage) → answerFor a ≡ B.GaveUp e → StillEarly a x
-  short working x e h = absurd (let z : _≡_ {A = ℕ} 0 1 = cc in let v : ⊥ = omega arith in v)
-  short done x e h = absurd (let z : _≡_ {A = ℕ} 0 1 = cc in let v : ⊥ = omega arith in v)
-  short (job byPop w) x e h = absurd (let z : _≡_ {A = ℕ} 0 1 = cc in let v : ⊥ = omega arith in v)
-  short (job byBatch w) x e h = absurd (let z : _≡_ {A = ℕ} 0 1 = cc in let v : ⊥ = omega arith in v)
-  short (nothing byPop) x e h = absurd (let z : _≡_ {A = ℕ} 0 1 = cc in let v : ⊥ = omega arith in v)
-  short (nothing byBatch) x e h = absurd (let z : _≡_ {A = ℕ} 0 1 = cc in let v : ⊥ = omega arith in v)
-  short empty x e h = absurd (let z : _≡_ {A = ℕ} 0 1 = cc in let v : ⊥ = omega arith in v)
-  short (success w) x e h = absurd (let z : _≡_ {A = ℕ} 0 1 = cc in let v : ⊥ = omega arith in v)
-  short retry x e h = absurd (let z : _≡_ {A = ℕ} 0 1 = cc in let v : ⊥ = omega arith in v)
-  short moved x e h = absurd (let z : _≡_ {A = ℕ} 0 1 = cc in let v : ⊥ = omega arith in v)
-  short (twoNumbers i j) x e h = absurd (let z : _≡_ {A = ℕ} 0 1 = cc in let v : ⊥ = omega arith in v)
+  short working x e h = absurd (true-false (sym (ap gaveUpB h)))
+  short done x e h = absurd (true-false (sym (ap gaveUpB h)))
+  short (job byPop w) x e h = absurd (true-false (sym (ap gaveUpB h)))
+  short (job byBatch w) x e h = absurd (true-false (sym (ap gaveUpB h)))
+  short (nothing byPop) x e h = absurd (true-false (sym (ap gaveUpB h)))
+  short (nothing byBatch) x e h = absurd (true-false (sym (ap gaveUpB h)))
+  short empty x e h = absurd (true-false (sym (ap gaveUpB h)))
+  short (success w) x e h = absurd (true-false (sym (ap gaveUpB h)))
+  short retry x e h = absurd (true-false (sym (ap gaveUpB h)))
+  short moved x e h = absurd (true-false (sym (ap gaveUpB h)))
+  short (twoNumbers i j) x e h = absurd (true-false (sym (ap gaveUpB h)))
   short tooLarge x e h = tt
   short noRing x e h = tt
 
   not-short : (r : Refusal) (e : Shortage) → B.Refused r ≡ B.GaveUp e → ⊥
-  not-short r e h = let z : _≡_ {A = ℕ} 0 1 = cc in omega arith
+  not-short r e h = true-false (sym (ap gaveUpB h))
 
   abbrev Leaves : ℕ → After → Type 0
   Leaves t a = (e : Shortage) → a .called .answer ≡ B.GaveUp e
@@ -179,18 +209,18 @@ module _ (n : ℕ) (fl : ℕ → Flavour) (jobs : ℕ → ℕ) (c : ℕ) (m : Ma
   -- of the model's stages, a length of the own queue that has loaded the back is this one
   asks : (R : ℕ → ℕ → Ring) (new : Ring) (t : ℕ) (i : Index) (x : Stage) → stageFor R new x ≡ G.Length t (N.LoadFront i)
       → (b : ℕ) × (x ≡ len t (length-front b)) × (ix b ≡ i)
-  asks R new t i idle h = absurd (let z : _≡_ {A = ℕ} 0 1 = cc in let v : ⊥ = omega arith in v)
-  asks R new t i (push x p) h = absurd (let z : _≡_ {A = ℕ} 0 1 = cc in let v : ⊥ = omega arith in v)
-  asks R new t i (fifoPop w p) h = absurd (let z : _≡_ {A = ℕ} 0 1 = cc in let v : ⊥ = omega arith in v)
-  asks R new t i (lifoPop w p) h = absurd (let z : _≡_ {A = ℕ} 0 1 = cc in let v : ⊥ = omega arith in v)
-  asks R new t i (shrink w v x) h = absurd (let z : _≡_ {A = ℕ} 0 1 = cc in let v : ⊥ = omega arith in v)
-  asks R new t i (steal k p) h = absurd (let z : _≡_ {A = ℕ} 0 1 = cc in let v : ⊥ = omega arith in v)
-  asks R new t i (len k length-back) h = absurd (let z : _≡_ {A = ℕ} 0 1 = cc in let v : ⊥ = omega arith in v)
+  asks R new t i idle h = absurd (true-false (sym (ap asksB h)))
+  asks R new t i (push x p) h = absurd (true-false (sym (ap asksB h)))
+  asks R new t i (fifoPop w p) h = absurd (true-false (sym (ap asksB h)))
+  asks R new t i (lifoPop w p) h = absurd (true-false (sym (ap asksB h)))
+  asks R new t i (shrink w v x) h = absurd (true-false (sym (ap asksB h)))
+  asks R new t i (steal k p) h = absurd (true-false (sym (ap asksB h)))
+  asks R new t i (len k length-back) h = absurd (true-false (sym (ap asksB h)))
   asks R new t i (len k (length-front b)) h =
       let e : k ≡ t = cc in let f : ix b ≡ i = cc in (b, ap (λ (j : ℕ). len j (length-front b)) e, f)
-  asks R new t i (ownBatch p) h = absurd (let z : _≡_ {A = ℕ} 0 1 = cc in let v : ⊥ = omega arith in v)
-  asks R new t i (source k p) h = absurd (let z : _≡_ {A = ℕ} 0 1 = cc in let v : ⊥ = omega arith in v)
-  asks R new t i (own k p) h = absurd (let z : _≡_ {A = ℕ} 0 1 = cc in let v : ⊥ = omega arith in v)
+  asks R new t i (ownBatch p) h = absurd (true-false (sym (ap asksB h)))
+  asks R new t i (source k p) h = absurd (true-false (sym (ap asksB h)))
+  asks R new t i (own k p) h = absurd (true-false (sym (ap asksB h)))
 
   -- a thread that asks after its own queue, and has loaded the back i: i is still the back, so what it is to answer is the number of jobs that
   -- stand in the queue, and the difference is that number

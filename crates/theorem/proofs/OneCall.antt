@@ -33,6 +33,7 @@ use Rattle.model.proofs.Calls.{step-kept, begin-kept}
 use Rattle.model.proofs.Indices.{still, step-bounded, begin-bounded}
 use Rattle.link.specs.Map.{answerFor, offerFor, operationOf}
 use Rattle.link.specs.Linked.{Linked, Behind}
+use Rattle.link.proofs.AgreeResize.{true-false}
 use Rattle.link.proofs.SoundLaws.{linked-sound}
 use Rattle.link.proofs.TurnLaws.{idle-is, small, gate-open, Turned, turn}
 use Rattle.link.proofs.BeginLaws.{exists, begin-is, begin-linked}
@@ -96,22 +97,19 @@ wish-is mem t (O.BatchAndPop k limit) = refl
 
 pub idle-of : (x : Stage) → busy x ≡ false → x ≡ idle
 idle-of idle h = refl
-idle-of (push x p) h = absurd (wrong h)
-  where
-    wrong : true ≡ false → ⊥
-    wrong e = let z : _≡_ {A = ℕ} 0 1 = cc in omega arith
-idle-of (fifoPop w p) h = absurd (let z : _≡_ {A = ℕ} 0 1 = cc in let y : ⊥ = omega arith in y)
-idle-of (lifoPop w p) h = absurd (let z : _≡_ {A = ℕ} 0 1 = cc in let y : ⊥ = omega arith in y)
-idle-of (shrink w v x) h = absurd (let z : _≡_ {A = ℕ} 0 1 = cc in let y : ⊥ = omega arith in y)
-idle-of (steal k p) h = absurd (let z : _≡_ {A = ℕ} 0 1 = cc in let y : ⊥ = omega arith in y)
-idle-of (len k p) h = absurd (let z : _≡_ {A = ℕ} 0 1 = cc in let y : ⊥ = omega arith in y)
-idle-of (ownBatch p) h = absurd (let z : _≡_ {A = ℕ} 0 1 = cc in let y : ⊥ = omega arith in y)
-idle-of (source k p) h = absurd (let z : _≡_ {A = ℕ} 0 1 = cc in let y : ⊥ = omega arith in y)
-idle-of (own k p) h = absurd (let z : _≡_ {A = ℕ} 0 1 = cc in let y : ⊥ = omega arith in y)
+idle-of (push x p) h = absurd (true-false h)
+idle-of (fifoPop w p) h = absurd (true-false h)
+idle-of (lifoPop w p) h = absurd (true-false h)
+idle-of (shrink w v x) h = absurd (true-false h)
+idle-of (steal k p) h = absurd (true-false h)
+idle-of (len k p) h = absurd (true-false h)
+idle-of (ownBatch p) h = absurd (true-false h)
+idle-of (source k p) h = absurd (true-false h)
+idle-of (own k p) h = absurd (true-false h)
 
 pub to-T : (b : Bool) → b ≡ true → T b
 to-T true e = tt
-to-T false e = let z : _≡_ {A = ℕ} 0 1 = cc in absurd (omega arith)
+to-T false e = absurd (true-false (sym e))
 
 module _ (n : ℕ) (fl : ℕ → Flavour) (mem : ℕ → ℕ) (c : ℕ) (lc : c < 2 ^ 62) (m : Machine) (cells : List ℕ) (b : Behind n fl mem c m cells) where
   -- what a call that leaves a keeps
