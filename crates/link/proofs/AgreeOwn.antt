@@ -45,7 +45,8 @@ module _ (fl : Flavour) (R : ℕ → ℕ → Ring) (k t : ℕ) (new : Ring) (q :
   abbrev Same : OwnStage → Out → Type 0
   Same p o = Agrees fl fl R t new gm gc cells (own k p) q o
 
-  after-resize : (a : Wanted) (z : ResizeStage) (r : Resized) (l : List ℕ) → resizeOf (resizeAt new z) (queueFor fl (R t) q) gc cells ≡ resizing (resizedFor fl (R t) new r) l
+  after-resize : (a : Wanted) (z : ResizeStage) (r : Resized) (l : List ℕ)
+      → resizeOf (resizeAt new z) (queueFor fl (R t) q) gc cells ≡ resizing (resizedFor fl (R t) new r) l
       → l ≡ noted (noteResize gm z) (R t (q .ring)) new cells
       → Same (reserve-resize a z) (resized r (λ y. going q (own k (reserve-resize a y))) (ended q noRing) (λ r. going r (own k (own-back a))))
   after-resize a z (more y) l e f = rw (e, f)
@@ -100,6 +101,7 @@ module _ (fl : Flavour) (R : ℕ → ℕ → Ring) (k t : ℕ) (new : Ring) (q :
       let l = o .stage .1 in rw (own-ix j (j .n - suc x) (o .stage .0) (omega arith), add-one, swap-agree R k new j (suc x))
   own-agree (own-store j) o h = stored (j .hand) refl (own-ix j (j .n) (o .stage) (omega arith))
     where
-      stored : (a : InHand) → j .hand ≡ a → plusOf (ix (j .b)) (j .n) ≡ ix (j .b + j .n) → Same (own-store j) (ownStep (offerFor gm (own k (own-store j)) q) fl k (own-store j) q)
+      stored : (a : InHand) → j .hand ≡ a → plusOf (ix (j .b)) (j .n) ≡ ix (j .b + j .n)
+          → Same (own-store j) (ownStep (offerFor gm (own k (own-store j)) q) fl k (own-store j) q)
       stored none a e = rw (e, a)
       stored (some v) a e = rw (e, a)

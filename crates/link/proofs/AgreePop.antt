@@ -26,8 +26,10 @@ module _ (fl : Flavour) (R : ℕ → ℕ → Ring) (k : ℕ) (new : Ring) (q : Q
   abbrev Same : Stage → Out → Type 0
   Same x o = Agrees fl fl R k new gm gc cells x q o
 
-  after-resize : (a : Popper) (v : ℕ) (z : ResizeStage) (r : Resized) (l : List ℕ) → resizeOf (resizeAt new z) (queueFor fl (R k) q) gc cells ≡ resizing (resizedFor fl (R k) new r) l
-      → l ≡ noted (noteResize gm z) (R k (q .ring)) new cells → Same (shrink a v z) (resized r (λ y. going q (shrink a v y)) (ended q (job a v)) (λ r. ended r (job a v)))
+  after-resize : (a : Popper) (v : ℕ) (z : ResizeStage) (r : Resized) (l : List ℕ)
+      → resizeOf (resizeAt new z) (queueFor fl (R k) q) gc cells ≡ resizing (resizedFor fl (R k) new r) l
+      → l ≡ noted (noteResize gm z) (R k (q .ring)) new cells
+      → Same (shrink a v z) (resized r (λ y. going q (shrink a v y)) (ended q (job a v)) (λ r. ended r (job a v)))
   after-resize byPop v z (more y) l e f = rw (e, f)
   after-resize byPop v z failed l e f = rw (e, f)
   after-resize byPop v z (finished r) l e f = rw (e, f)

@@ -33,14 +33,16 @@ module _ (fl : Flavour) (R : ℕ → ℕ → Ring) (k : ℕ) (new : Ring) (q : Q
   abbrev Says-same : Stage → Out → Type 0
   Says-same x o = Agrees fl fl R k new gm gc cells x q o
 
-  after-resize : (x b : ℕ) (z : ResizeStage) (r : Resized) (l : List ℕ) → resizeOf (resizeAt new z) (queueFor fl (R k) q) gc cells ≡ resizing (resizedFor fl (R k) new r) l
+  after-resize : (x b : ℕ) (z : ResizeStage) (r : Resized) (l : List ℕ)
+      → resizeOf (resizeAt new z) (queueFor fl (R k) q) gc cells ≡ resizing (resizedFor fl (R k) new r) l
       → l ≡ noted (noteResize gm z) (R k (q .ring)) new cells
       → Says-same (push x (push-resize b z)) (resized r (λ y. going q (push x (push-resize b y))) (ended q noRing) (λ r. going r (push x (push-write b))))
   after-resize x b z (more y) l e f = rw (e, f)
   after-resize x b z failed l e f = rw (e, f)
   after-resize x b z (finished r) l e f = rw (e, f)
 
-  pub push-agree : (x : ℕ) (p : PushStage) → Ok fl (push x p) q → PushNames (R k) new gm gc p q → Says-same (push x p) (pushStep (offerFor gm (push x p) q) x p q)
+  pub push-agree : (x : ℕ) (p : PushStage) → Ok fl (push x p) q → PushNames (R k) new gm gc p q
+      → Says-same (push x p) (pushStep (offerFor gm (push x p) q) x p q)
   unfolding pushStep
   push-agree x push-back o h = refl
   push-agree x (push-front b) o h =

@@ -109,7 +109,8 @@ module _ (fo fl : Flavour) (R : ℕ → ℕ → Ring) (k : ℕ) (new : Ring) (q 
       let t₁ = same-is (q .front) (j .f) in
       either (eqb (q .front) (j .f)) (λ t. taken (j .hand) refl n t₁ t) (λ t. rw (n, t₁, t, stop-agree R k new k fo fl j i q))
     where
-      taken : (a : InHand) → j .hand ≡ a → plusOf (ix (j .f)) 1 ≡ ix (suc (j .f)) → sameB (ix (q .front)) (ix (j .f)) ≡ eqb (q .front) (j .f) → eqb (q .front) (j .f) ≡ true
+      taken : (a : InHand) → j .hand ≡ a → plusOf (ix (j .f)) 1 ≡ ix (suc (j .f)) → sameB (ix (q .front)) (ix (j .f)) ≡ eqb (q .front) (j .f)
+          → eqb (q .front) (j .f) ≡ true
           → Agree (one-exchange j i v)
       taken none a n s t = rw (n, s, t, a)
       taken (some x) a n s t = rw (n, s, t, a)

@@ -39,11 +39,13 @@ use Rattle.link.proofs.Agree.{agree}
 use Rattle.link.proofs.TurnLaws.{gate-open}
 
 -- the first stage, in the model and in the code
-popping-is : (fl : Flavour) (w : Popper) (R : ℕ → ℕ → Ring) (new : Ring) → stageFor R new (popping fl w) ≡ G.Pop (popperOf w) (H.popping (flavorOf fl))
+popping-is : (fl : Flavour) (w : Popper) (R : ℕ → ℕ → Ring) (new : Ring)
+    → stageFor R new (popping fl w) ≡ G.Pop (popperOf w) (H.popping (flavorOf fl))
 popping-is fifo w R new = refl
 popping-is lifo w R new = refl
 
-first-is : (R : ℕ → ℕ → Ring) (new : Ring) (fl : Flavour) (t : ℕ) (o : CodeOperation) → H.firstStage (flavorOf fl) t o ≡ stageFor R new (firstStage fl t (operationOf o))
+first-is : (R : ℕ → ℕ → Ring) (new : Ring) (fl : Flavour) (t : ℕ) (o : CodeOperation)
+    → H.firstStage (flavorOf fl) t o ≡ stageFor R new (firstStage fl t (operationOf o))
 first-is R new fl t (Q.Push v) = refl
 first-is R new fl t Q.Pop = sym (popping-is fl byPop R new)
 first-is R new fl t (Q.Length k) = refl

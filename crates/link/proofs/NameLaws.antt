@@ -59,7 +59,8 @@ source-as A B (one-read j i) h = rw (h (j .ring) refl)
 source-as A B (one-reload j i v) h = rw (h (j .ring) refl)
 source-as A B (one-exchange j i v) h = rw (h (j .ring) refl)
 
-own-as : (A B : ℕ → Ring) (a b : Ring) (p : OwnStage) → ((r : ℕ) → OwnHolds p r → A r ≡ B r) → ((buildsOwn p ≡ not-building → ⊥) → a ≡ b) → ownAt A a p ≡ ownAt B b p
+own-as : (A B : ℕ → Ring) (a b : Ring) (p : OwnStage) → ((r : ℕ) → OwnHolds p r → A r ≡ B r) → ((buildsOwn p ≡ not-building → ⊥) → a ≡ b)
+    → ownAt A a p ≡ ownAt B b p
 own-as A B a b (reserve-back w) h l = refl
 own-as A B a b (reserve-front w i) h l = refl
 own-as A B a b (reserve-resize w z) h l = rw (resize-as a b z l)

@@ -97,7 +97,8 @@ module _ (cells : List ℕ) (n : ℕ) (r : Ring) (l : length cells ≡ n * place
       go (no a) b (inl s) = pool-out L p x s ∙ sym (there a ∙ pool-out cells p x s)
       go (yes a) (yes b) (inr s) =
           pool-in L p x s ∙ ap (λ (l : List ℕ). getD l (p * placeCells + x) 0) is-set
-          ∙ (let e : getD (set cells (P * placeCells + X) v) (p * placeCells + x) 0 ≡ v = rw (a, b) (getD-set-same cells (P * placeCells + X) v 0 inside) in e)
+          ∙ (let e : getD (set cells (P * placeCells + X) v) (p * placeCells + x) 0 ≡ v =
+          rw (a, b) (getD-set-same cells (P * placeCells + X) v 0 inside) in e)
           ∙ sym (here a ∙ upd-same (poolOf cells P) X v x b)
       go (yes a) (no b) (inr s) =
           other (λ e. b (omega arith)) s ∙ ap (λ (y : ℕ). poolOf cells y x) a ∙ sym (here a ∙ upd-other (poolOf cells P) X v x b)

@@ -87,7 +87,8 @@ module _ (new : Ring) (q : Queue) (ca : allowedB (cap q) ≡ true) (gm : Claim) 
   push-fine x (push-write b) o r h e = tt
   push-fine x (push-store b) o r h e = tt
 
-  shrink-fine : (w : Popper) (v : ℕ) (z : ResizeStage) → ResizeFits (new .capacity) z → ResizeClaims new gm gc z → Good (shrinkStep (offerFor gm (shrink w v z) q) w v z q)
+  shrink-fine : (w : Popper) (v : ℕ) (z : ResizeStage) → ResizeFits (new .capacity) z → ResizeClaims new gm gc z
+      → Good (shrinkStep (offerFor gm (shrink w v z) q) w v z q)
   unfolding shrinkStep
   shrink-fine w v z h e =
       by-fine Good (resizeStep gm z q) (λ y. going q (shrink w v y)) (ended q (job w v)) (λ r. ended r (job w v)) (resize-fine z h e) (λ y k. k) tt (λ r. tt)
@@ -96,7 +97,8 @@ module _ (new : Ring) (q : Queue) (ca : allowedB (cap q) ≡ true) (gm : Claim) 
   half-fine : (few : Bool) → ltb smallest (cap q) ≡ true → allowedB (cap q / 2) ≡ true
   half-fine few h = half-allowed (cap q) ca (ltb-true smallest (cap q) h)
 
-  offer-fine : (a b : Bool) → (a ≡ true → allowedB (cap q / 2) ≡ true) → T (ltb 0 (pick (a && b) (cap q / 2) 0)) → allowedB (pick (a && b) (cap q / 2) 0) ≡ true
+  offer-fine : (a b : Bool) → (a ≡ true → allowedB (cap q / 2) ≡ true) → T (ltb 0 (pick (a && b) (cap q / 2) 0))
+      → allowedB (pick (a && b) (cap q / 2) 0) ≡ true
   offer-fine true true h t = h refl
   offer-fine true false h t = absurd t
   offer-fine false b h t = absurd t
@@ -138,7 +140,8 @@ module _ (new : Ring) (q : Queue) (ca : allowedB (cap q) ≡ true) (gm : Claim) 
       above : largest < x → allowedB (sizeOf (holdingOf x)) ≡ true
       above u = let z : x ≤ 0 = rw (holding-over x u) at h in absurd (omega arith)
 
-  own-fine : (fo : Flavour) (k : ℕ) (p : OwnStage) → OwnFits (new .capacity) p → OwnClaims new gm gc p → Good (ownStep (offerFor gm (own k p) q) fo k p q)
+  own-fine : (fo : Flavour) (k : ℕ) (p : OwnStage) → OwnFits (new .capacity) p → OwnClaims new gm gc p
+      → Good (ownStep (offerFor gm (own k p) q) fo k p q)
   unfolding ownStep
   own-fine fo k (reserve-back w) h e = tt
   own-fine fo k (reserve-front w b) h e =
@@ -218,8 +221,10 @@ module _ (C : ℕ) (q : Queue) where
   own-batch-plain (length-front b) = tt
 
 -- any step of thread t, at stage x
-pub step-fits : (fl : ℕ → Flavour) (t : ℕ) (new : Ring) (x : Stage) (q : Queue) (gm : Claim) (gc : CodeClaim) → (touched t x ≡ t → allowedB (cap q) ≡ true)
-    → (touched t x ≡ t → Ok (fl t) x q) → StageFits (new .capacity) x → StageClaims new gm gc x → StageFits (new .capacity) (stepAt (offerFor gm x q) fl t x q .stage)
+pub step-fits : (fl : ℕ → Flavour) (t : ℕ) (new : Ring) (x : Stage) (q : Queue) (gm : Claim) (gc : CodeClaim)
+    → (touched t x ≡ t → allowedB (cap q) ≡ true)
+    → (touched t x ≡ t → Ok (fl t) x q) → StageFits (new .capacity) x → StageClaims new gm gc x
+    → StageFits (new .capacity) (stepAt (offerFor gm x q) fl t x q .stage)
 step-fits fl t new idle q gm gc a o h e = tt
 step-fits fl t new (push x p) q gm gc a o h e = push-fine new q (a refl) gm gc x p (o refl .order) (o refl .stage) h e
 step-fits fl t new (fifoPop w p) q gm gc a o h e = fifo-fine new q (a refl) gm gc w p

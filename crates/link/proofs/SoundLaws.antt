@@ -112,10 +112,12 @@ module _ (n : ℕ) (fl : ℕ → Flavour) (R : ℕ → ℕ → Ring) (s : State)
     room-most : (b i : ℕ) → s .queues t .front ≤ s .queues t .back → Room (s .queues t) b i → i ≤ largest
     room-most b i o r = let c = cap-most t l in omega arith
 
-    haul-sound : (P : ℕ → Ring) (h : Haul) (i : ℕ) → s .queues t .front ≤ s .queues t .back → HaulOk h (s .queues t) → i ≤ h .n → haulSound (haulFor P h) i ≡ true
+    haul-sound : (P : ℕ → Ring) (h : Haul) (i : ℕ) → s .queues t .front ≤ s .queues t .back → HaulOk h (s .queues t) → i ≤ h .n
+        → haulSound (haulFor P h) i ≡ true
     haul-sound P h i o r a = and-both _ _ (le-leb (h .n) largest (room-most (h .b) (h .n) o r)) (le-leb i (h .n) a)
 
-    source-sound : (P : ℕ → Ring) (p : SourceStage) → s .queues t .front ≤ s .queues t .back → SourceOk p (s .queues t) → sourceSound (sourceAt P p) ≡ true
+    source-sound : (P : ℕ → Ring) (p : SourceStage) → s .queues t .front ≤ s .queues t .back → SourceOk p (s .queues t)
+        → sourceSound (sourceAt P p) ≡ true
     source-sound P (source-front a others) o r = refl
     source-sound P (source-back a others f) o r = refl
     source-sound P (source-ring a b) o r = le-leb (a .n) largest (room-most b (a .n) o r)
@@ -129,7 +131,8 @@ module _ (n : ℕ) (fl : ℕ → Flavour) (R : ℕ → ℕ → Ring) (s : State)
     source-sound P (one-reload h i x) o r = haul-sound P h i o (r .0) (omega (arith, r .1))
     source-sound P (one-exchange h i x) o r = haul-sound P h i o (r .0) (omega (arith, r .1))
 
-    own-sound : (P : ℕ → Ring) (new : Ring) (p : OwnStage) → s .queues t .front ≤ s .queues t .back → OwnOk p (s .queues t) → OwnFits (new .capacity) p
+    own-sound : (P : ℕ → Ring) (new : Ring) (p : OwnStage) → s .queues t .front ≤ s .queues t .back → OwnOk p (s .queues t)
+        → OwnFits (new .capacity) p
         → ownSound (ownAt P new p) ≡ true
     own-sound P new (reserve-back a) o r h = refl
     own-sound P new (reserve-front a b) o r h = refl

@@ -124,7 +124,8 @@ module _ (n : ℕ) (fl : ℕ → Flavour) (R : ℕ → ℕ → Ring) (s : State)
       cur-cap : cur .capacity ≡ cap (s .queues k)
       cur-cap = w .caps k (s .queues k .ring) lk (v .oks k lk .ring-top)
 
-      wrote-stored : (i x : ℕ) → o .queue ≡ setCell (s .queues t) i x → builds (s .stages t) ≡ not-building → builds (o .stage) ≡ not-building → Is (writtenOf cells cur (ix i) x)
+      wrote-stored : (i x : ℕ) → o .queue ≡ setCell (s .queues t) i x → builds (s .stages t) ≡ not-building → builds (o .stage) ≡ not-building
+          → Is (writtenOf cells cur (ix i) x)
       wrote-stored i x e a b =
           let top : o .queue .top ≡ s .queues t .top = ap (λ (q : Queue). q .top) e in
           let tops = same-tops top in
@@ -137,7 +138,8 @@ module _ (n : ℕ) (fl : ℕ → Flavour) (R : ℕ → ℕ → Ring) (s : State)
               pool-write cells (m .«place_count») cur (w .pool-length) ring-sound i x p y
               ∙ ap₂ (λ (a b : ℕ). put (poolOf cells) a (i % b) x p y) (ap (λ (j : ℕ). R j (s .queues j .ring) .place .0) kt) (cur-cap ∙ ap (λ (j : ℕ). cap (s .queues j)) kt)
 
-      copied-stored : (i c : ℕ) (f : ℕ → ℕ) → o .queue ≡ s .queues t → builds (s .stages t) ≡ building c f → builds (o .stage) ≡ building c (upd f (i % c) (at (s .queues t) i))
+      copied-stored : (i c : ℕ) (f : ℕ → ℕ) → o .queue ≡ s .queues t → builds (s .stages t) ≡ building c f
+          → builds (o .stage) ≡ building c (upd f (i % c) (at (s .queues t) i))
           → W .capacity ≡ c → readOf cells cur (ix i) ≡ at (s .queues k) i → Is (copiedOf cells cur W (ix i))
       copied-stored i c f e a b z rd =
           let top : o .queue .top ≡ s .queues t .top = ap (λ (q : Queue). q .top) e in
@@ -153,7 +155,8 @@ module _ (n : ℕ) (fl : ℕ → Flavour) (R : ℕ → ℕ → Ring) (s : State)
               ∙ ap₂ (λ (a b : ℕ). put (poolOf cells) (W .place .0) (i % a) b p y) z (rd ∙ ap (λ (j : ℕ). at (s .queues j) i) kt)
 
       -- a claim: one more name
-      claims-stored : (c : ℕ) (f : ℕ → ℕ) → o .queue ≡ s .queues t → builds (s .stages t) ≡ not-building → builds (o .stage) ≡ building c f → Found f → Is cells
+      claims-stored : (c : ℕ) (f : ℕ → ℕ) → o .queue ≡ s .queues t → builds (s .stages t) ≡ not-building → builds (o .stage) ≡ building c f
+          → Found f → Is cells
       claims-stored c f e a b z = record {
         queue = refl;
         stage = ap (λ (r : ℕ). stageFor R (R t r) (o .stage)) (sym (tops t));
@@ -187,14 +190,16 @@ module _ (n : ℕ) (fl : ℕ → Flavour) (R : ℕ → ℕ → Ring) (s : State)
           new-low : (j r : ℕ) → New j r → R j r .number .0 < next .0
           new-low j r p = let x = number-at j r p in let y = z .counted in omega arith
 
-          two : (j r i u : ℕ) → j < n → i < n → Named n s j r ⊎ New j r → Named n s i u ⊎ New i u → R j r .number .0 ≡ R i u .number .0 → (j ≡ i) × (r ≡ u)
+          two : (j r i u : ℕ) → j < n → i < n → Named n s j r ⊎ New j r → Named n s i u ⊎ New i u → R j r .number .0 ≡ R i u .number .0
+              → (j ≡ i) × (r ≡ u)
           two j r i u l y (inl p) (inl q) h = w .numbers j r i u l y p q h
           two j r i u l y (inl p) (inr q) h = let x = w .next j r l p in let g = number-at i u q in absurd (omega arith)
           two j r i u l y (inr p) (inl q) h = let x = w .next i u y q in let g = number-at j r p in absurd (omega arith)
           two j r i u l y (inr p) (inr q) h = (p .0 ∙ sym (q .0), p .1 ∙ sym (q .1))
 
       -- a swap: the ring that was built is the queue's
-      swaps-stored : (c : ℕ) (f : ℕ → ℕ) → builds (s .stages t) ≡ building c f → o .queue ≡ swap (s .queues t) c f → builds (o .stage) ≡ not-building → W .capacity ≡ c → Is cells
+      swaps-stored : (c : ℕ) (f : ℕ → ℕ) → builds (s .stages t) ≡ building c f → o .queue ≡ swap (s .queues t) c f
+          → builds (o .stage) ≡ not-building → W .capacity ≡ c → Is cells
       swaps-stored c f a e b z = record {
         queue = refl;
         stage = stage-as R R W (R t (s′ .queues t .top)) (o .stage) (λ j r h. refl) (λ h. absurd (h b));
@@ -233,7 +238,8 @@ module _ (n : ℕ) (fl : ℕ → Flavour) (R : ℕ → ℕ → Ring) (s : State)
                   subst (λ (i : ℕ). Named n s i r) (sym p) (mine r (omega arith) (ℕ-discrete r (q .top)))
               go (yes p) (inr x) = absurd (x .1 (ap builds (upd-same (s .stages) t (o .stage) j p) ∙ b))
               go (no p) (inl x) = let h : s′ .queues j .top ≡ s .queues j .top = ap (λ (q : Queue). q .top) (other j p) in inl (omega arith)
-              go (no p) (inr x) = inr (x .0 ∙ ap (λ (q : Queue). q .top) (other j p), λ y. x .1 (ap builds (upd-other (s .stages) t (o .stage) j p) ∙ y))
+              go (no p) (inr x) =
+                  inr (x .0 ∙ ap (λ (q : Queue). q .top) (other j p), λ y. x .1 (ap builds (upd-other (s .stages) t (o .stage) j p) ∙ y))
 
           own-cap : (r : ℕ) → r < suc (q .top) → Dec (r ≡ q .top) → R t r .capacity ≡ upd (q .caps) (q .top) c r
           own-cap r y (yes p) = ap (λ (r : ℕ). R t r .capacity) p ∙ z ∙ sym (upd-same (q .caps) (q .top) c r p)
@@ -256,7 +262,8 @@ module _ (n : ℕ) (fl : ℕ → Flavour) (R : ℕ → ℕ → Ring) (s : State)
     abbrev Claimed : Type 0
     Claimed = (f : ℕ → ℕ) → gm ≡ got f → Found f
 
-    pub step-stored : Sized → Claimed → ((i : ℕ) → readOf cells cur (ix i) ≡ at (s .queues k) i) → Is (noted (note gm (fl t) (s .stages t)) cur W cells)
+    pub step-stored : Sized → Claimed → ((i : ℕ) → readOf cells cur (ix i) ≡ at (s .queues k) i)
+        → Is (noted (note gm (fl t) (s .stages t)) cur W cells)
     step-stored z h rd = go (note gm (fl t) (s .stages t)) (d .effect)
       where
         go : (nt : Note) → Effect nt t k gm (builds (s .stages t)) (s .queues k) (builds (o .stage)) (o .queue) → Is (noted nt cur W cells)

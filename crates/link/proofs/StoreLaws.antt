@@ -68,7 +68,8 @@ module _ (n : ℕ) (fl : ℕ → Flavour) (R : ℕ → ℕ → Ring) (s : State)
     pub same-length : length cells′ ≡ length cells
     pub keeps : Keeps n s′ (placesOf R) (poolOf cells′)
 
-  pub stored-linked : (next : RingNumber) (q : CodeQueue) (x : CodeStage) (cells′ : List ℕ) → Stored next q x cells′ → Linked n fl R s′ (putBack m t k next q x) cells′
+  pub stored-linked : (next : RingNumber) (q : CodeQueue) (x : CodeStage) (cells′ : List ℕ) → Stored next q x cells′
+      → Linked n fl R s′ (putBack m t k next q x) cells′
   stored-linked next q x cells′ h = record {
     counts = w .counts;
     count = w .count;

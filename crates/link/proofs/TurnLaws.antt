@@ -223,7 +223,8 @@ module _ (n : ℕ) (fl : ℕ → Flavour) (s : State) (m : Machine) (cells : Lis
       tables : StageClaims W gm gc x → advanceOf (stageFor R W x) (flavorOf (fl t)) (queueFor (fl k) (R k) q) gc cells ≡ left (outFor (fl k) R k W o) cells′
       tables cl = agree n fl R s m cells w mem v c b lc t lt gm gc x refl bx cl
 
-      ran-is : claimOf m (stageFor R W x) ≡ gc → StageClaims W gm gc x → ran m cells t (stageFor R W x) ≡ after machine′ (answerFor (o .answer)) cells′
+      ran-is : claimOf m (stageFor R W x) ≡ gc → StageClaims W gm gc x
+          → ran m cells t (stageFor R W x) ≡ after machine′ (answerFor (o .answer)) cells′
       ran-is e cl =
           rw (touched-is R W t x, e, w .queues t lt, w .queues k lk, tables cl)
           (ap (λ (z : Machine). after z (answerFor (o .answer)) cells′) (put-back m t k gc (queueFor (fl k) (R k) (o .queue)) (stageFor R W (o .stage))))
@@ -315,9 +316,11 @@ module _ (n : ℕ) (fl : ℕ → Flavour) (s : State) (m : Machine) (cells : Lis
     turn R w = go (claim-at x)
       where
         tests : (a : ℕ) → ((R : ℕ → ℕ → Ring) (new : Ring) → claimsB (stageFor R new x) ≡ true)
-            → ((new : Ring) (gm : Claim) (gc : CodeClaim) → ClaimIs new a gm gc → StageClaims new gm gc x) → builds x ≡ not-building → allowedB a ≡ true
+            → ((new : Ring) (gm : Claim) (gc : CodeClaim) → ClaimIs new a gm gc → StageClaims new gm gc x) → builds x ≡ not-building
+            → allowedB a ≡ true
             → (p : Bool) → ltb (freePlace m) (m .«place_count») ≡ p → (r : Bool) → ltb (m .«next_ring» .0) (2 ^ 64 - 1) ≡ r → Turned
-        tests a cb cl nb al true e true h = with-ring R w a cb cl nb al (ltb-true (freePlace m) (m .«place_count») e) (ltb-true (m .«next_ring» .0) (2 ^ 64 - 1) h)
+        tests a cb cl nb al true e true h =
+            with-ring R w a cb cl nb al (ltb-true (freePlace m) (m .«place_count») e) (ltb-true (m .«next_ring» .0) (2 ^ 64 - 1) h)
         tests a cb cl nb al true e false h = without R w (rw (cb R (R t (s .queues t .top)), e, h)) (cl (R t (s .queues t .top)) lost J.Nothing tt)
         tests a cb cl nb al false e r h = without R w (rw (cb R (R t (s .queues t .top)), e)) (cl (R t (s .queues t .top)) lost J.Nothing tt)
 

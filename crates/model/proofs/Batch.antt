@@ -39,10 +39,12 @@ none-of : (j : InHand) → T (isNone j) → j ≡ none
 none-of none t = refl
 none-of (some w) t = absurd t
 
-pub by-swap : (P : Stage → Type 0) (k : ℕ) (h : Haul) (x : ℕ) → (suc (x + x) < h .n → P (own k (swap-near h x))) → P (own k (own-store h)) → P (swapNext k h x)
+pub by-swap : (P : Stage → Type 0) (k : ℕ) (h : Haul) (x : ℕ) → (suc (x + x) < h .n → P (own k (swap-near h x))) → P (own k (own-store h))
+    → P (swapNext k h x)
 by-swap P k h x a b = by-test P (leb (h .n / 2) x) _ _ (λ t. b) (λ t. a (omega tests))
 
-by-landing : (P : Stage → Type 0) (fo : Flavour) (k : ℕ) (h : Haul) → (1 < h .n → P (own k (swap-near h 0))) → P (own k (own-store h)) → P (landing fo k h)
+by-landing : (P : Stage → Type 0) (fo : Flavour) (k : ℕ) (h : Haul) → (1 < h .n → P (own k (swap-near h 0))) → P (own k (own-store h))
+    → P (landing fo k h)
 by-landing P fifo k h a b = by-swap P k h 0 (λ l. a (omega arith)) b
 by-landing P lifo k h a b = b
 

@@ -34,7 +34,8 @@ module _ (n : ℕ) (fl : ℕ → Flavour) where
     others : (u : ℕ) → (u ≡ t → ⊥) → s′ .stages u ≡ s .stages u
     aware : Aware n fl s′ t (s′ .stages t)
 
-  aware-on : (s s′ : State) (u : ℕ) → ((i : ℕ) → i < n → Ev (fl i) (seen n fl s i) (seen n fl s′ i)) → at (s′ .queues u) ≡ at (s .queues u) → s′ .queues u .back ≡ s .queues u .back → (x : Stage)
+  aware-on : (s s′ : State) (u : ℕ) → ((i : ℕ) → i < n → Ev (fl i) (seen n fl s i) (seen n fl s′ i)) → at (s′ .queues u) ≡ at (s .queues u)
+      → s′ .queues u .back ≡ s .queues u .back → (x : Stage)
       → Aware n fl s u x → Aware n fl s′ u x
   aware-on s s′ u e c d idle w = tt
   aware-on s s′ u e c d (push x p) w = tt
@@ -42,7 +43,8 @@ module _ (n : ℕ) (fl : ℕ → Flavour) where
   aware-on s s′ u e c d (lifoPop a p) w = tt
   aware-on s s′ u e c d (shrink a v z) w = tt
   aware-on s s′ u e c d (steal k p) w = (w .0, stable-steal (fl k) p (seen n fl s k) (seen n fl s′ k) (e k (w .0)) (w .1))
-  aware-on s s′ u e c d (len k p) w = (w .0, λ h. subst (LengthKnows p) (ap (λ (i : ℕ). s .queues i .back) h ∙ sym d ∙ ap (λ (i : ℕ). s′ .queues i .back) (sym h)) (w .1 h))
+  aware-on s s′ u e c d (len k p) w =
+      (w .0, λ h. subst (LengthKnows p) (ap (λ (i : ℕ). s .queues i .back) h ∙ sym d ∙ ap (λ (i : ℕ). s′ .queues i .back) (sym h)) (w .1 h))
   aware-on s s′ u e c d (ownBatch p) w = tt
   aware-on s s′ u e c d (source k p) w =
       (w .0, w .1, rw c (stable-source (fl k) (fl u) (at (s .queues u)) (seen n fl s k) (seen n fl s′ k) (e k (w .0)) p (w .2)))
@@ -75,7 +77,8 @@ module _ (n : ℕ) (fl : ℕ → Flavour) where
   -- ---- a step of thread t on its own queue, known index by index
 
   by-owner : (mem : ℕ → ℕ) (P : Stage → Queue → Type 0) (s s′ : State) (t : ℕ) (o : Out) → Inv n fl mem s → t < n
-      → Good P (fl t) (s .stages t) (s .queues t) o → s′ .stages t ≡ o .stage → s′ .queues t ≡ o .queue → ((i : ℕ) → (i ≡ t → ⊥) → s′ .stages i ≡ s .stages i)
+      → Good P (fl t) (s .stages t) (s .queues t) o → s′ .stages t ≡ o .stage → s′ .queues t ≡ o .queue
+      → ((i : ℕ) → (i ≡ t → ⊥) → s′ .stages i ≡ s .stages i)
       → ((i : ℕ) → (i ≡ t → ⊥) → s′ .queues i ≡ s .queues i) → Aware n fl s′ t (o .stage) → Kept n fl (mem t) mem s s′ (o .answer)
   by-owner mem P s s′ t o v l g e f a b w = record {
     inv = framed mem mem s s′ t v record {
@@ -112,9 +115,11 @@ module _ (n : ℕ) (fl : ℕ → Flavour) where
       go i h d (yes e) = subst P (sym e) r
       go i h d (no e) = q i h d e
 
-  by-batch : (mem : ℕ → ℕ) (s s′ : State) (t k : ℕ) (p : SourceStage) (o : Out) → Inv n fl mem s → t < n → k < n → (k ≡ t → ⊥) → s .stages t ≡ source k p
+  by-batch : (mem : ℕ → ℕ) (s s′ : State) (t k : ℕ) (p : SourceStage) (o : Out) → Inv n fl mem s → t < n → k < n → (k ≡ t → ⊥)
+      → s .stages t ≡ source k p
       → Rob (fl k) (fl t) k (s .stages k) (s .queues k) p (s .queues t) o → s′ .stages t ≡ o .stage → s′ .queues k ≡ o .queue
-      → ((i : ℕ) → (i ≡ t → ⊥) → s′ .stages i ≡ s .stages i) → ((i : ℕ) → (i ≡ k → ⊥) → s′ .queues i ≡ s .queues i) → Kept n fl (mem t) mem s s′ (o .answer)
+      → ((i : ℕ) → (i ≡ t → ⊥) → s′ .stages i ≡ s .stages i) → ((i : ℕ) → (i ≡ k → ⊥) → s′ .queues i ≡ s .queues i)
+      → Kept n fl (mem t) mem s s′ (o .answer)
   by-batch mem s s′ t k p o v l h d z g e f a b =
       let d′ : t ≡ k → ⊥ = λ u. d (sym u) in
       record {
@@ -233,7 +238,8 @@ module _ (n : ℕ) (fl : ℕ → Flavour) where
 
   by-thief : (mem : ℕ → ℕ) (s s′ : State) (t k : ℕ) (o : Out) → Inv n fl mem s → t < n → k < n → Neutral (s .stages t)
       → Fair (fl k) k (s .stages k) (s .queues k) o → s′ .stages t ≡ o .stage → s′ .queues k ≡ o .queue
-      → ((i : ℕ) → (i ≡ t → ⊥) → s′ .stages i ≡ s .stages i) → ((i : ℕ) → (i ≡ k → ⊥) → s′ .queues i ≡ s .queues i) → Kept n fl (mem t) mem s s′ (o .answer)
+      → ((i : ℕ) → (i ≡ t → ⊥) → s′ .stages i ≡ s .stages i) → ((i : ℕ) → (i ≡ k → ⊥) → s′ .queues i ≡ s .queues i)
+      → Kept n fl (mem t) mem s s′ (o .answer)
   by-thief mem s s′ t k o v l h c g e f a b =
       let c′ : Neutral (s′ .stages t) = rw e (from-neutral k (o .stage) (g .from)) in
       record {
@@ -330,8 +336,10 @@ module _ (n : ℕ) (fl : ℕ → Flavour) where
 
   -- ---- begin
 
-  starts : (m : ℕ) (mem mem′ : ℕ → ℕ) (s : State) (t : ℕ) (x : Stage) → Inv n fl mem s → t < n → s .stages t ≡ idle → lo x (s .queues t) ≡ s .queues t .front
-      → hi x (s .queues t) ≡ s .queues t .back → ((j : ℕ) → held x (s .queues t) j ≡ 0) → StageOk (fl t) x (s .queues t) → ((u : ℕ) → (u ≡ t → ⊥) → mem′ u ≡ mem u)
+  starts : (m : ℕ) (mem mem′ : ℕ → ℕ) (s : State) (t : ℕ) (x : Stage) → Inv n fl mem s → t < n → s .stages t ≡ idle
+      → lo x (s .queues t) ≡ s .queues t .front
+      → hi x (s .queues t) ≡ s .queues t .back → ((j : ℕ) → held x (s .queues t) j ≡ 0) → StageOk (fl t) x (s .queues t)
+      → ((u : ℕ) → (u ≡ t → ⊥) → mem′ u ≡ mem u)
       → Says (mem′ t) x → Aware n fl (record { stages = upd (s .stages) t x; queues = s .queues }) t x
       → Kept n fl m mem′ s (record { stages = upd (s .stages) t x; queues = s .queues }) working
   starts m mem mem′ s t x v l e a b c p q y w =
@@ -371,5 +379,9 @@ module _ (n : ℕ) (fl : ℕ → Flavour) where
   begin-kept m mem s t (do-length k) v l e h = starts m mem mem s t (len k length-back) v l e refl refl (λ j. refl) tt (λ u d. refl) tt (h, λ z. tt)
   begin-kept m mem s t (do-steal k) v l e h = starts m mem mem s t (steal k steal-front) v l e refl refl (λ j. refl) tt (λ u d. refl) tt (h, tt)
   begin-kept m mem s t (do-batch c k others) v l e h =
-      by-test (λ (x : Stage). Kept n fl m mem s (record { stages = upd (s .stages) t x; queues = s .queues }) working) (eqb k t) _ _ (λ z. start-own m mem s t c v l e)
+      by-test (λ (x : Stage). Kept n fl m mem s (record {
+        stages =
+            upd (s .stages) t x;
+        queues = s .queues;
+      }) working) (eqb k t) _ _ (λ z. start-own m mem s t c v l e)
       (λ z. starts m mem mem s t (source k (source-front c others)) v l e refl refl (λ j. refl) tt (λ u d. refl) tt (h, omega tests, tt))

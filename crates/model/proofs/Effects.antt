@@ -44,7 +44,8 @@ after-resize g t (resize-copy c b i f) q =
     by-test (After g t (resize-copy c b i f) q) (eqb (suc i) b) _ _ (λ w. (refl, refl, (c, f, refl, refl))) (λ w. (refl, refl, (c, f, refl, refl)))
 after-resize g t (resize-swap c f) q = (refl, refl, (c, f, refl, refl))
 
-by-after : (P : Out → Type 0) (g : Claim) (t : ℕ) (z : ResizeStage) (q : Queue) (res : Resized) (k : ResizeStage → Out) (e : Out) (d : Queue → Out) → After g t z q res
+by-after : (P : Out → Type 0) (g : Claim) (t : ℕ) (z : ResizeStage) (q : Queue) (res : Resized) (k : ResizeStage → Out) (e : Out) (d : Queue → Out)
+    → After g t z q res
     → ((y : ResizeStage) → Effect (noteResize g z) t t g (buildsResize z) q (buildsResize y) q → P (k y))
     → (Effect (noteResize g z) t t g (buildsResize z) q not-building q → P e)
     → ((r : Queue) → Effect (noteResize g z) t t g (buildsResize z) q not-building r → P (d r)) → P (resized res k e d)
@@ -60,7 +61,8 @@ module _ (g : Offer) (fo : Flavour) (t : ℕ) where
 
   -- nothing is written and nothing built
   still : {k : ℕ} {s x : Stage} {a : Answer} {q r : Queue} → note (g .claim) fo s ≡ kept → r .rings ≡ q .rings → r .caps ≡ q .caps → r .ring ≡ q .ring
-      → r .top ≡ q .top → builds x ≡ not-building → ((j i : ℕ) → Holds x j i → Holds s j i ⊎ ((j ≡ k) × (i ≡ q .ring))) → Does (g .claim) fo t k s q (out r x a)
+      → r .top ≡ q .top → builds x ≡ not-building → ((j i : ℕ) → Holds x j i → Holds s j i ⊎ ((j ≡ k) × (i ≡ q .ring)))
+      → Does (g .claim) fo t k s q (out r x a)
   still {k} {s} {x} {a} {q} {r} e rings caps ring top b h = record {
     effect = subst (λ (n : Note). Effect n t k (g .claim) (builds s) q (builds x) r) (sym e) (rings, caps, ring, top, inr b);
     holds = h;
@@ -157,13 +159,15 @@ module _ (g : Offer) (fo : Flavour) (t : ℕ) where
   -- ---- batch
 
   -- from a stage that holds the haul's ring to another that does, or to the answer
-  stop-does : (k : ℕ) (p : SourceStage) (h : Haul) (i : ℕ) (q r : Queue) → ((i : ℕ) → i ≡ h .ring → SourceHolds p i) → r .rings ≡ q .rings → r .caps ≡ q .caps
+  stop-does : (k : ℕ) (p : SourceStage) (h : Haul) (i : ℕ) (q r : Queue) → ((i : ℕ) → i ≡ h .ring → SourceHolds p i) → r .rings ≡ q .rings
+      → r .caps ≡ q .caps
       → r .ring ≡ q .ring → r .top ≡ q .top → D k (source k p) q (stopped fo k h i r)
   stop-does k p h i q r o a b c d =
       by-stopped (D k (source k p) q) fo k h i r (λ e z. still refl a b c d refl (λ j i h. absurd h))
       (λ z. still refl a b c d refl (λ j i w. inl (w .0, o i (w .1)))) (still refl a b c d refl (λ j i w. inl (w .0, o i (w .1))))
 
-  copy-does : (k : ℕ) (p : SourceStage) (h : Haul) (q : Queue) → ((j i : ℕ) → (j ≡ k) × (i ≡ h .ring) → Holds (source k p) j i ⊎ ((j ≡ k) × (i ≡ q .ring)))
+  copy-does : (k : ℕ) (p : SourceStage) (h : Haul) (q : Queue)
+      → ((j i : ℕ) → (j ≡ k) × (i ≡ h .ring) → Holds (source k p) j i ⊎ ((j ≡ k) × (i ≡ q .ring)))
       → D k (source k p) q (going q (copyNext k h 0))
   copy-does k p h q o =
       by-copy (λ (x : Stage). D k (source k p) q (going q x)) k h 0 (λ u. still refl refl refl refl refl refl o) (λ u. still refl refl refl refl refl refl o)
@@ -253,7 +257,8 @@ module _ (g : Offer) (fo : Flavour) (t : ℕ) where
   own-does k (own-store h) q = still refl refl refl refl refl refl (λ j i h. absurd h)
 
 -- any step
-pub step-does : (g : Offer) (fl : ℕ → Flavour) (t : ℕ) (x : Stage) (q : Queue) → T (busy x) → Does (g .claim) (fl t) t (touched t x) x q (stepAt g fl t x q)
+pub step-does : (g : Offer) (fl : ℕ → Flavour) (t : ℕ) (x : Stage) (q : Queue) → T (busy x)
+    → Does (g .claim) (fl t) t (touched t x) x q (stepAt g fl t x q)
 step-does g fl t idle q b = absurd b
 step-does g fl t (push x p) q b = push-does g (fl t) t x p q
 step-does g fl t (fifoPop w p) q b = fifo-does g (fl t) t w p q

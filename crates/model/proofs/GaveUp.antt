@@ -33,8 +33,10 @@ module _ (g : Offer) (fo : Flavour) where
   U x q o = Untouched (g .claim) fo x q o
 
   -- what a resize leaves, for a stage x whose early resizes are early
-  by-resize-early : (x : Stage) (z : ResizeStage) (q : Queue) (k : ResizeStage → Out) (e : Out) (d : Queue → Out) → note (g .claim) fo x ≡ noteResize (g .claim) z
-      → (EarlyResize z → Early x) → ((y : ResizeStage) → StillEarly (k y .answer) (k y .stage) → EarlyResize y) → ((y : ResizeStage) → k y .queue ≡ q) → e .queue ≡ q
+  by-resize-early : (x : Stage) (z : ResizeStage) (q : Queue) (k : ResizeStage → Out) (e : Out) (d : Queue → Out)
+      → note (g .claim) fo x ≡ noteResize (g .claim) z
+      → (EarlyResize z → Early x) → ((y : ResizeStage) → StillEarly (k y .answer) (k y .stage) → EarlyResize y)
+      → ((y : ResizeStage) → k y .queue ≡ q) → e .queue ≡ q
       → ((r : Queue) → StillEarly (d r .answer) (d r .stage) → ⊥) → U x q (resized (resizeStep (g .claim) z q) k e d)
   unfolding resizeStep
   by-resize-early x (resize-back c) q k e d n f a b s r = λ h. (f tt, b (resize-front c (q .back)), n)

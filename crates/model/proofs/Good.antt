@@ -57,7 +57,8 @@ quiet P fl s s′ a q o e f h w c p = record {
 }
 
 -- a stage with the physical queue for logical one
-pub ok-rest : (fl : Flavour) (s : Stage) (q : Queue) → lo s q ≡ q .front → hi s q ≡ q .back → q .front ≤ q .back → q .back ≤ q .front + cap q → 0 < cap q
+pub ok-rest : (fl : Flavour) (s : Stage) (q : Queue) → lo s q ≡ q .front → hi s q ≡ q .back → q .front ≤ q .back → q .back ≤ q .front + cap q
+    → 0 < cap q
     → q .ring < q .top → StageOk fl s q → Ok fl s q
 ok-rest fl s q e f a b c d p = record {
   order = rw (e, f) a;

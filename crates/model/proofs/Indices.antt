@@ -30,14 +30,16 @@ use Rattle.model.proofs.Batch.{by-swap, by-stopped, by-turning, by-copy
 
 -- ---- the front is never more than one past the back, nor the logical back
 
-front-fifo : (fl : Flavour) (w : Popper) (p : FifoPopStage) (q : Queue) → Ok fl (fifoPop w p) q → (q .front ≤ suc (q .back)) × (hi (fifoPop w p) q ≤ suc (q .back))
+front-fifo : (fl : Flavour) (w : Popper) (p : FifoPopStage) (q : Queue) → Ok fl (fifoPop w p) q
+    → (q .front ≤ suc (q .back)) × (hi (fifoPop w p) q ≤ suc (q .back))
 front-fifo fl w fifo-back q o = omega (arith, o .order)
 front-fifo fl w (fifo-front b) q o = omega (arith, o .order)
 front-fifo fl w (fifo-add b d) q o = omega (arith, o .order)
 front-fifo fl w (fifo-restore f) q o = omega (arith, o .stage .1 .0, o .stage .1 .1)
 front-fifo fl w (fifo-read f d) q o = omega (arith, o .order)
 
-front-lifo : (fl : Flavour) (w : Popper) (p : LifoPopStage) (q : Queue) → Ok fl (lifoPop w p) q → (q .front ≤ suc (q .back)) × (hi (lifoPop w p) q ≤ suc (q .back))
+front-lifo : (fl : Flavour) (w : Popper) (p : LifoPopStage) (q : Queue) → Ok fl (lifoPop w p) q
+    → (q .front ≤ suc (q .back)) × (hi (lifoPop w p) q ≤ suc (q .back))
 front-lifo fl w lifo-back q o = omega (arith, o .order)
 front-lifo fl w (lifo-front b) q o = omega (arith, o .order)
 front-lifo fl w (lifo-store b) q o = omega (arith, o .order)
@@ -225,14 +227,16 @@ module _ (n : ℕ) (fl : ℕ → Flavour) where
   pub still : (c : ℕ) (s : State) → Bounded n c s → Bounded n (suc c) s
   still c s b = record { backs = λ i m. omega (arith, b .backs i m); fronts = λ i m. omega (arith, b .fronts i m) }
 
-  earlies : (c : ℕ) (s : State) (t : ℕ) (o : Out) → Bounded n c s → early (o .stage) ≤ suc (suc c) → (i : ℕ) → i < n → early (upd (s .stages) t (o .stage) i) ≤ suc (suc c)
+  earlies : (c : ℕ) (s : State) (t : ℕ) (o : Out) → Bounded n c s → early (o .stage) ≤ suc (suc c) → (i : ℕ) → i < n
+      → early (upd (s .stages) t (o .stage) i) ≤ suc (suc c)
   earlies c s t o b h i m = go (ℕ-discrete i t)
     where
       go : Dec (i ≡ t) → early (upd (s .stages) t (o .stage) i) ≤ suc (suc c)
       go (yes e) = rw (upd-same (s .stages) t (o .stage) i e) h
       go (no d) = rw (upd-other (s .stages) t (o .stage) i d) (omega (arith, b .fronts i m))
 
-  own-slow : (c : ℕ) (s : State) (t : ℕ) (o : Out) → Bounded n c s → t < n → Slow (s .queues t .back + earned (s .stages t)) o → Bounded n (suc c) (stored s t t o)
+  own-slow : (c : ℕ) (s : State) (t : ℕ) (o : Out) → Bounded n c s → t < n → Slow (s .queues t .back + earned (s .stages t)) o
+      → Bounded n (suc c) (stored s t t o)
   own-slow c s t o b l h = record { backs = λ i m. go i m (ℕ-discrete i t); fronts = earlies c s t o b (omega (arith, h .1)) }
     where
       go : (i : ℕ) → i < n → Dec (i ≡ t) → upd (s .queues) t (o .queue) i .back + earned (upd (s .stages) t (o .stage) i) ≤ suc c
@@ -255,10 +259,12 @@ module _ (n : ℕ) (fl : ℕ → Flavour) where
       creds i (no d) = rw (upd-other (s .stages) t (o .stage) i d) (omega arith)
 
   -- front and back of every queue, after c calls
-  pub indices : (c : ℕ) (mem : ℕ → ℕ) (s : State) → Inv n fl mem s → Bounded n c s → (k : ℕ) → k < n → (s .queues k .front ≤ suc c) × (s .queues k .back ≤ c)
+  pub indices : (c : ℕ) (mem : ℕ → ℕ) (s : State) → Inv n fl mem s → Bounded n c s → (k : ℕ) → k < n
+      → (s .queues k .front ≤ suc c) × (s .queues k .back ≤ c)
   indices c mem s v b k l = let f = front-le (fl k) (s .stages k) (s .queues k) (v .oks k l) in let g = b .backs k l in (omega arith, omega arith)
 
-  step-from : (c : ℕ) (mem : ℕ → ℕ) (s : State) (t : ℕ) (g : Offer) (x : Stage) → Inv n fl mem s → Bounded n c s → t < n → s .stages t ≡ x → T (busy x)
+  step-from : (c : ℕ) (mem : ℕ → ℕ) (s : State) (t : ℕ) (g : Offer) (x : Stage) → Inv n fl mem s → Bounded n c s → t < n → s .stages t ≡ x
+      → T (busy x)
       → Bounded n (suc c) (stepped fl s t g x)
   step-from c mem s t g idle v b l e h = absurd h
   step-from c mem s t g (push x p) v b l e h =

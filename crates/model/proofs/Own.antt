@@ -126,7 +126,8 @@ module _ (fs fo : Flavour) (k : ℕ) (v : View) where
   -- ---- reversal
 
   -- after the first write of a swap, with the second taken as done, the count is what it was
-  swapped : (h : Haul) (x near far : ℕ) (q : Queue) (j : ℕ) → h .n ≤ cap q → suc (x + x) < h .n → near ≡ at q (h .b + x) → far ≡ at q (h .b + (h .n - suc x))
+  swapped : (h : Haul) (x near far : ℕ) (q : Queue) (j : ℕ) → h .n ≤ cap q → suc (x + x) < h .n → near ≡ at q (h .b + x)
+      → far ≡ at q (h .b + (h .n - suc x))
       → stand (at q) (h .b) (h .b + h .n) j ≡ stand (upd (at (setCell q (h .b + x) far)) (h .b + (h .n - suc x)) near) (h .b) (h .b + h .n) j
   swapped h x near far q j c l e f =
       let b : ℕ = h .b in
@@ -175,7 +176,8 @@ module _ (fs fo : Flavour) (k : ℕ) (v : View) where
 
   pub own-good : (g : Offer) (p : OwnStage) (q : Queue) → Ok fo (own k p) q → OwnKnows fs fo p (at q) v → Fine p q (ownStep g fo k p q)
   unfolding ownStep
-  own-good g (reserve-back a) q o w = go-on (reserve-back a) (own k (reserve-front a (q .back))) q working o refl refl (λ m j. refl) (λ m. tt) (refl, w) refl
+  own-good g (reserve-back a) q o w =
+      go-on (reserve-back a) (own k (reserve-front a (q .back))) q working o refl refl (λ m j. refl) (λ m. tt) (refl, w) refl
   own-good g (reserve-front a b) q o w = reserve-looked a b g q o w
   own-good g (reserve-resize a z) q o w = reserve-resized a z g q o w
   own-good g (own-back a) q o w =

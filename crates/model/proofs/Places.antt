@@ -23,7 +23,8 @@ use Rattle.model.proofs.Effects.{Does}
 
 module _ (n : ℕ) (s s′ : State) (place : ℕ → ℕ → ℕ) (pool : ℕ → ℕ → ℕ) (v : Keeps n s place pool) where
   -- rings are let go, or held by one more
-  letting : ((k r : ℕ) → Live n s′ k r → Live n s k r) → ((k r : ℕ) → Live n s′ k r → (x : ℕ) → content s′ k r x ≡ content s k r x) → Keeps n s′ place pool
+  letting : ((k r : ℕ) → Live n s′ k r → Live n s k r) → ((k r : ℕ) → Live n s′ k r → (x : ℕ) → content s′ k r x ≡ content s k r x)
+      → Keeps n s′ place pool
   letting f c = record {
     agree = λ k r l x. v .agree k r (f k r l) x ∙ sym (c k r l x);
     apart = λ k r j i l m e. v .apart k r j i (f k r l) (f j i m) e;
@@ -31,7 +32,8 @@ module _ (n : ℕ) (s s′ : State) (place : ℕ → ℕ → ℕ) (pool : ℕ �
 
   -- one cell of a live ring is written
   writing : (a b x y : ℕ) → Live n s a b → ((k r : ℕ) → Live n s′ k r → Live n s k r) → ((z : ℕ) → content s′ a b z ≡ upd (content s a b) x y z)
-      → ((k r : ℕ) → Live n s′ k r → ((k ≡ a) × (r ≡ b) → ⊥) → (z : ℕ) → content s′ k r z ≡ content s k r z) → Keeps n s′ place (put pool (place a b) x y)
+      → ((k r : ℕ) → Live n s′ k r → ((k ≡ a) × (r ≡ b) → ⊥) → (z : ℕ) → content s′ k r z ≡ content s k r z)
+      → Keeps n s′ place (put pool (place a b) x y)
   writing a b x y l f g h = record {
     agree = λ k r m z. go k r m z (ℕ-discrete k a) (ℕ-discrete r b);
     apart = λ k r j i m o e. v .apart k r j i (f k r m) (f j i o) e;
@@ -47,7 +49,8 @@ module _ (n : ℕ) (s s′ : State) (place : ℕ → ℕ → ℕ) (pool : ℕ �
           (v .agree k r (f k r m) z ∙ sym (h k r m d z))
 
       go : (k r : ℕ) → Live n s′ k r → (z : ℕ) → Dec (k ≡ a) → Dec (r ≡ b) → put pool (place a b) x y (place k r) z ≡ content s′ k r z
-      go k r m z (yes p) (yes q) = rw (p, q, upd-same pool (place a b) (upd (pool (place a b)) x y) (place a b) refl) (cells z (ℕ-discrete z x) ∙ sym (g z))
+      go k r m z (yes p) (yes q) =
+          rw (p, q, upd-same pool (place a b) (upd (pool (place a b)) x y) (place a b) refl) (cells z (ℕ-discrete z x) ∙ sym (g z))
       go k r m z (yes p) (no q) = away k r m z (λ w. q (w .1))
       go k r m z (no p) q = away k r m z (λ w. p (w .0))
 
@@ -72,7 +75,8 @@ module _ (n : ℕ) (s s′ : State) (place : ℕ → ℕ → ℕ) (pool : ℕ �
       agree′ k r m x (yes p) = rw (p .0, p .1) (sym (was x))
       agree′ k r m x (no d) = v .agree k r (live k r m d) x ∙ sym (same k r m d x)
 
-      apart′ : (k r j i : ℕ) → Live n s′ k r → Live n s′ j i → place k r ≡ place j i → Dec ((k ≡ a) × (r ≡ b)) → Dec ((j ≡ a) × (i ≡ b)) → (k ≡ j) × (r ≡ i)
+      apart′ : (k r j i : ℕ) → Live n s′ k r → Live n s′ j i → place k r ≡ place j i → Dec ((k ≡ a) × (r ≡ b)) → Dec ((j ≡ a) × (i ≡ b))
+          → (k ≡ j) × (r ≡ i)
       apart′ k r j i m o e (yes p) (yes q) = (p .0 ∙ sym (q .0), p .1 ∙ sym (q .1))
       apart′ k r j i m o e (yes p) (no q) = absurd (free j i (live j i o q) (sym e ∙ ap₂ place (p .0) (p .1)))
       apart′ k r j i m o e (no p) (yes q) = absurd (free k r (live k r m p) (e ∙ ap₂ place (q .0) (q .1)))
@@ -89,7 +93,8 @@ module _ (n : ℕ) (fl : ℕ → Flavour) (mem : ℕ → ℕ) (s : State) (v : I
   steal-named k (steal-reload i f x) r w h = rw h (w .2)
   steal-named k (steal-exchange i f x) r w h = rw h (w .2)
 
-  source-named : (k t : ℕ) (p : SourceStage) (r : ℕ) → SourceKnows (fl k) (fl t) p (at (s .queues t)) (seen n fl s k) → SourceHolds p r → r < s .queues k .top
+  source-named : (k t : ℕ) (p : SourceStage) (r : ℕ) → SourceKnows (fl k) (fl t) p (at (s .queues t)) (seen n fl s k) → SourceHolds p r
+      → r < s .queues k .top
   source-named k t (source-front m others) r w h = absurd h
   source-named k t (source-back m others f) r w h = absurd h
   source-named k t (source-ring a b) r w h = absurd h
@@ -187,7 +192,8 @@ module _ (n : ℕ) (fl : ℕ → Flavour) (mem : ℕ → ℕ) (s : State) (v : I
       go (inr (inl z)) = held-left j r z
       go (inr (inr z)) = inr (inr (z .0 ∙ b, λ y. z .1 (ap builds (stage-other j e) ∙ y)))
 
-  content-other : (j r x : ℕ) → (j ≡ t → ⊥) → s′ .queues j .rings ≡ s .queues j .rings → s′ .queues j .top ≡ s .queues j .top → content s′ j r x ≡ content s j r x
+  content-other : (j r x : ℕ) → (j ≡ t → ⊥) → s′ .queues j .rings ≡ s .queues j .rings → s′ .queues j .top ≡ s .queues j .top
+      → content s′ j r x ≡ content s j r x
   content-other j r x e a b = rw (a, b, stage-other j e)
 
   -- the rings of t's own queue, by what the step did
@@ -330,7 +336,8 @@ module _ (n : ℕ) (fl : ℕ → Flavour) (mem : ℕ → ℕ) (s : State) (v : I
 
       -- every other ring is as it was
       old-cells : (j r : ℕ) → ((j ≡ t) × (r ≡ s .queues t .top) → ⊥) → (x : ℕ) → content s′ j r x ≡ content s j r x
-      old-cells j r p x = by-queue (λ (j : ℕ). ((j ≡ t) × (r ≡ s .queues t .top) → ⊥) → content s′ j r x ≡ content s j r x) mine (λ j p y. content-away j r x p) j p
+      old-cells j r p x =
+          by-queue (λ (j : ℕ). ((j ≡ t) × (r ≡ s .queues t .top) → ⊥) → content s′ j r x ≡ content s j r x) mine (λ j p y. content-away j r x p) j p
         where
           mine : ((t ≡ t) × (r ≡ s .queues t .top) → ⊥) → content s′ t r x ≡ content s t r x
           mine p =

@@ -206,4 +206,5 @@ lifo-good g fl w (lifo-exchange b f v) q o =
     (o .stage .0, (o .stage .1 .0, omega tests)))
 lifo-good g fl w (lifo-won b v) q o = lifo-reset fl w (lifo-won b v) b (job w v) q o refl (λ m j. omega arith) (omega arith)
 lifo-good g fl w (lifo-read b d) q o =
-    reading-good g fl (lifoPop w (lifo-read b d)) w d (at q (b - 1)) q o refl refl (λ j. (let g : b - 1 ≡ q .back = omega arith in rw g)) (o .stage .1 .1)
+    reading-good g fl (lifoPop w (lifo-read b d)) w d (at q (b - 1)) q o refl refl (λ j. (let g : b - 1 ≡ q .back =
+    omega arith in rw g)) (o .stage .1 .1)

@@ -61,7 +61,8 @@ push-resized g fl x b z q o =
 
 pub push-good : (g : Offer) (fl : Flavour) (x : ℕ) (p : PushStage) (q : Queue) → Ok fl (push x p) q → Good Calm fl (push x p) q (pushStep g x p q)
 unfolding pushStep
-push-good g fl x push-back q o = quiet Calm fl (push x push-back) (push x (push-front (q .back))) working q o refl refl (λ m j. refl) (λ m h. h) tt refl
+push-good g fl x push-back q o =
+    quiet Calm fl (push x push-back) (push x (push-front (q .back))) working q o refl refl (λ m j. refl) (λ m h. h) tt refl
 push-good g fl x (push-front b) q o =
     let P : Out → Type 0 = Good Calm fl (push x (push-front b)) q in
     by-test P (leb (q .front + cap q) b) _ _

@@ -28,13 +28,15 @@ ResizeGood need fl q (more z) = ResizeOk need z q
 ResizeGood need fl q failed = Unit
 ResizeGood need fl q (finished r) = Swapped need fl q r
 
-pub by-resize : (P : Out → Type 0) (need : ℕ) (fl : Flavour) (q : Queue) (res : Resized) (k : ResizeStage → Out) (e : Out) (d : Queue → Out) → ResizeGood need fl q res
+pub by-resize : (P : Out → Type 0) (need : ℕ) (fl : Flavour) (q : Queue) (res : Resized) (k : ResizeStage → Out) (e : Out) (d : Queue → Out)
+    → ResizeGood need fl q res
     → ((z : ResizeStage) → ResizeOk need z q → P (k z)) → P e → ((r : Queue) → Swapped need fl q r → P (d r)) → P (resized res k e d)
 by-resize P need fl q (more z) k e d h a b c = a z h
 by-resize P need fl q failed k e d h a b c = b
 by-resize P need fl q (finished r) k e d h a b c = c r h
 
-swapping : (need : ℕ) (fl : Flavour) (c : ℕ) (cells : ℕ → ℕ) (q : Queue) → q .ring < q .top → ResizeOk need (resize-swap c cells) q → Swapped need fl q (swap q c cells)
+swapping : (need : ℕ) (fl : Flavour) (c : ℕ) (cells : ℕ → ℕ) (q : Queue) → q .ring < q .top → ResizeOk need (resize-swap c cells) q
+    → Swapped need fl q (swap q c cells)
 swapping need fl c cells q t o =
     let same : (x : ℕ) → q .front ≤ x → x < q .back → at (swap q c cells) x ≡ at q x = λ x l u. swap-new q c cells x ∙ o .2 x l u in
     record {

@@ -40,7 +40,8 @@ module _ (fs fo : Flavour) (k : ℕ) (s : Stage) (q : Queue) (o : Ok fs s q) (mq
 
   -- a step that changes nothing shared
   look : (p : SourceStage) (x : Stage) (a : Answer) → Ok fo (source k p) mq → lo x mq ≡ mq .front → hi x mq ≡ mq .back
-      → ((m j : ℕ) → accepts m a j + held (source k p) mq j ≡ gives a j + held x mq j) → ((m : ℕ) → Says m x) → Aft k fs fo (view s q) x mq → StageOk fo x mq
+      → ((m j : ℕ) → accepts m a j + held (source k p) mq j ≡ gives a j + held x mq j) → ((m : ℕ) → Says m x) → Aft k fs fo (view s q) x mq
+      → StageOk fo x mq
       → Robs p (out q x a)
   look p x a mo e f h w c l = record {
     ok = o;
@@ -57,7 +58,8 @@ module _ (fs fo : Flavour) (k : ℕ) (s : Stage) (q : Queue) (o : Ok fs s q) (mq
 
   -- an exchange won for v
   taken : (p : SourceStage) (x : Stage) (f v : ℕ) → Ok fo (source k p) mq → Won fs s q f v → lo x mq ≡ mq .front → hi x mq ≡ mq .back
-      → ((j : ℕ) → one v j + held (source k p) mq j ≡ held x mq j) → ((m : ℕ) → Says m x) → Aft k fs fo (view s (setFront q (suc f))) x mq → StageOk fo x mq
+      → ((j : ℕ) → one v j + held (source k p) mq j ≡ held x mq j) → ((m : ℕ) → Says m x) → Aft k fs fo (view s (setFront q (suc f))) x mq
+      → StageOk fo x mq
       → Robs p (going (setFront q (suc f)) x)
   taken p x f v mo g e h b w c l = record {
     ok = g .ok;
@@ -103,7 +105,8 @@ module _ (fs fo : Flavour) (k : ℕ) (s : Stage) (q : Queue) (o : Ok fs s q) (mq
   -- ---- the ring is held
 
   all-begun : (p : SourceStage) (h : Haul) → isFifo fs → Ok fo (source k p) mq → ((j : ℕ) → held (source k p) mq j ≡ 0) → HaulOk h mq
-      → Span fs (view s q) (h .f) (inHand (h .hand) + h .n) → BulkRing (view s q) h → Copied fo (at mq) (view s q) h 0 → Robs p (going q (copyNext k h 0))
+      → Span fs (view s q) (h .f) (inHand (h .hand) + h .n) → BulkRing (view s q) h → Copied fo (at mq) (view s q) h 0
+      → Robs p (going q (copyNext k h 0))
   all-begun p h i mo c r sp rg cp =
       by-copy (λ (x : Stage). Robs p (going q x)) k h 0
       (λ t. (let e : 0 ≡ h .n = omega arith in
@@ -161,7 +164,8 @@ module _ (fs fo : Flavour) (k : ℕ) (s : Stage) (q : Queue) (o : Ok fs s q) (mq
       not-none : (x : ℕ) → some x ≡ none → ⊥
       not-none x a = let z : _≡_ {A = ℕ} 0 1 = cc in omega arith
 
-  one-exchanged : (h : Haul) (i x : ℕ) → Ok fo (source k (one-exchange h i x)) mq → SourceKnows fs fo (one-exchange h i x) (at mq) (view s q) → q .front ≡ h .f
+  one-exchanged : (h : Haul) (i x : ℕ) → Ok fo (source k (one-exchange h i x)) mq → SourceKnows fs fo (one-exchange h i x) (at mq) (view s q)
+      → q .front ≡ h .f
       → Robs (one-exchange h i x) (going (setFront q (suc (h .f))) (own k (one-write (onward h (nextInHand (h .hand) x)) i (toWrite (h .hand) x))))
   one-exchanged h i x mo w e =
       let g = won fs s q (h .f) x o (w .0 .1) (w .1) e in
@@ -170,7 +174,8 @@ module _ (fs fo : Flavour) (k : ℕ) (s : Stage) (q : Queue) (o : Ok fs s q) (mq
       (λ j. omega (arith, in-hand (h .hand) x j)) (λ m. tt) (refl, (w .0 .0, u, w .0 .2)) (mo .stage)
 
 -- the ring is loaded, and held: by kind and flavour
-ring-held : (fs fo : Flavour) (k : ℕ) (s : Stage) (q : Queue) (o : Ok fs s q) (mq : Queue) (a : Wanted) (b : ℕ) (m : BatchKind) → Ok fo (source k (source-ring a b)) mq
+ring-held : (fs fo : Flavour) (k : ℕ) (s : Stage) (q : Queue) (o : Ok fs s q) (mq : Queue) (a : Wanted) (b : ℕ) (m : BatchKind)
+    → Ok fo (source k (source-ring a b)) mq
     → Span fs (view s q) (a .f) (toHand m + a .n) → Rob fs fo k s q (source-ring a b) mq (holding m fs fo k (hauling (q .ring) a b) q)
 ring-held fifo fo k s q o mq a b plain mo w =
     let h : Haul = hauling (q .ring) a b in
@@ -189,7 +194,8 @@ ring-held lifo fo k s q o mq a b andPop mo w =
     (refl, ((w .0, omega arith, w .2), (o .ring-top, λ x a c d. refl))) (mo .stage)
 
 first-held : (fs fo : Flavour) (k : ℕ) (s : Stage) (q : Queue) (o : Ok fs s q) (mq : Queue) (h : Haul) → Ok fo (source k (source-first h)) mq
-    → SourceKnows fs fo (source-first h) (at mq) (view s q) → Rob fs fo k s q (source-first h) mq (going q (firstRead fs k h (cell q (h .ring) (h .f))))
+    → SourceKnows fs fo (source-first h) (at mq) (view s q)
+    → Rob fs fo k s q (source-first h) mq (going q (firstRead fs k h (cell q (h .ring) (h .f))))
 first-held fifo fo k s q o mq h mo w =
     let x : ℕ = cell q (h .ring) (h .f) in
     let has : Has (view s q) (h .f) x = λ l. w .1 .1 (h .f) l (le-refl (h .f)) (omega arith) in

@@ -94,7 +94,8 @@ stable-steal fl (steal-exchange r f x) v w e k =
     let t = e .tops in (span-on fl v w f 1 e (k .0), one-has fl v w f x e (k .0) (k .1), omega arith)
 
 module _ (fl fo : Flavour) (mine : ℕ → ℕ) (v w : View) (e : Ev fl v w) where
-  copied-on : (h : Haul) (i : ℕ) → h .f + inHand (h .hand) + i ≤ v .hi → h .f + inHand (h .hand) + i ≤ w .hi → Copied fo mine v h i → Copied fo mine w h i
+  copied-on : (h : Haul) (i : ℕ) → h .f + inHand (h .hand) + i ≤ v .hi → h .f + inHand (h .hand) + i ≤ w .hi → Copied fo mine v h i
+      → Copied fo mine w h i
   copied-on h i p q k l j =
       let g = e .grows in
       k (omega arith) j

@@ -102,7 +102,8 @@ module _ (n : ℕ) (fl : ℕ → Flavour) (jobs : ℕ → ℕ) (c : ℕ) (m : Ma
       same lt = ap keptOf (sym (b .linked .stages t lt)) ∙ e
 
       go : (lt : t < n) → Keeping (b .names) (b .names t (s .queues t .top)) (s .stages t) → (k : ℕ) × (i : ℕ) × Live n s k i × (a ≡ b .names k i)
-      go lt (keeps-nothing f) = absurd (let z : Q.Nothing ≡ Q.Built a = sym f ∙ same lt in let y : _≡_ {A = ℕ} 0 1 = cc in let x : ⊥ = omega arith in x)
+      go lt (keeps-nothing f) =
+          absurd (let z : Q.Nothing ≡ Q.Built a = sym f ∙ same lt in let y : _≡_ {A = ℕ} 0 1 = cc in let x : ⊥ = omega arith in x)
       go lt (keeps-held k i h) =
           absurd (let z : Q.Held (b .names k i) ≡ Q.Built a = sym (holds-kept (b .names) (b .names t (s .queues t .top)) (s .stages t) k i h) ∙ same lt in
           let y : _≡_ {A = ℕ} 0 1 = cc in let x : ⊥ = omega arith in x)
@@ -117,13 +118,15 @@ module _ (n : ℕ) (fl : ℕ → Flavour) (jobs : ℕ → ℕ) (c : ℕ) (m : Ma
       same lt = ap keptOf (sym (b .linked .stages t lt)) ∙ e
 
       go : (lt : t < n) → Keeping (b .names) (b .names t (s .queues t .top)) (s .stages t) → (k : ℕ) × (i : ℕ) × Live n s k i × (a ≡ b .names k i)
-      go lt (keeps-nothing f) = absurd (let z : Q.Nothing ≡ Q.Held a = sym f ∙ same lt in let y : _≡_ {A = ℕ} 0 1 = cc in let x : ⊥ = omega arith in x)
+      go lt (keeps-nothing f) =
+          absurd (let z : Q.Nothing ≡ Q.Held a = sym f ∙ same lt in let y : _≡_ {A = ℕ} 0 1 = cc in let x : ⊥ = omega arith in x)
       go lt (keeps-held k i h) =
           let z : Q.Held (b .names k i) ≡ Q.Held a = sym (holds-kept (b .names) (b .names t (s .queues t .top)) (s .stages t) k i h) ∙ same lt in
           let y : b .names k i ≡ a = cc in
           let g = held-named n fl jobs s (b .inv) k i (t, lt, h) in (k, i, (g .0, inr (inl (t, lt, h))), sym y)
       go lt (keeps-built h f) =
-          absurd (let z : Q.Built (b .names t (s .queues t .top)) ≡ Q.Held a = sym f ∙ same lt in let y : _≡_ {A = ℕ} 0 1 = cc in let x : ⊥ = omega arith in x)
+          absurd (let z : Q.Built (b .names t (s .queues t .top)) ≡ Q.Held a =
+          sym f ∙ same lt in let y : _≡_ {A = ℕ} 0 1 = cc in let x : ⊥ = omega arith in x)
 
   -- live rings have places of their own: two in one place are one ring
   pub places-apart : (a r : Ring) → LiveRing m a → LiveRing m r → a .place .0 ≡ r .place .0 → a ≡ r

@@ -156,7 +156,8 @@ module _ (n : ℕ) (fl : ℕ → Flavour) (mem : ℕ → ℕ) (c : ℕ) (lc : c 
 
   -- ---- begin
 
-  begins : (t : ℕ) (o : CodeOperation) → t < n → s .stages t ≡ idle → namesB n o ≡ true → limitB o ≡ true → Goes (begin pool t o) (beginOf m cells t o)
+  begins : (t : ℕ) (o : CodeOperation) → t < n → s .stages t ≡ idle → namesB n o ≡ true → limitB o ≡ true
+      → Goes (begin pool t o) (beginOf m cells t o)
   begins t o lt i e h =
       subst (Goes (begin pool t o)) (sym (begin-is n fl (b .names) s m cells (b .linked) mem (b .inv) c (b .bounded) lc t lt o i e h)) record {
         behind = record {
@@ -173,7 +174,8 @@ module _ (n : ℕ) (fl : ℕ → Flavour) (mem : ℕ → ℕ) (c : ℕ) (lc : c 
       k : Kept n fl 0 (wish mem t (operationOf o)) s (begun fl s t (operationOf o)) working
       k = begin-kept n fl 0 mem s t (operationOf o) (b .inv) lt i (exists n o e)
 
-  begin-shut : (t : ℕ) (o : CodeOperation) (r : Refusal) → t < n → beginGate (m .«queue_count») (stageAt m t) o ≡ Shut r → beginOf m cells t o ≡ refused m r cells
+  begin-shut : (t : ℕ) (o : CodeOperation) (r : Refusal) → t < n → beginGate (m .«queue_count») (stageAt m t) o ≡ Shut r
+      → beginOf m cells t o ≡ refused m r cells
   unfolding beginOf
   begin-shut t o r lt e = rw (gate-in t lt, e)
 
@@ -186,10 +188,12 @@ module _ (n : ℕ) (fl : ℕ → Flavour) (mem : ℕ → ℕ) (c : ℕ) (lc : c 
       idles : idleB (stageAt m t) ≡ not (busy (s .stages t))
       idles = ap idleB (w .stages t lt) ∙ idle-is (b .names) (b .names t (s .queues t .top)) (s .stages t)
 
-      shut : (r : Refusal) → Allowed pool (B.Refused r) → beginGate (m .«queue_count») (stageAt m t) o ≡ Shut r → Goes (begin pool t o) (beginOf m cells t o)
+      shut : (r : Refusal) → Allowed pool (B.Refused r) → beginGate (m .«queue_count») (stageAt m t) o ≡ Shut r
+          → Goes (begin pool t o) (beginOf m cells t o)
       shut r h e = subst (Goes (begin pool t o)) (sym (begin-shut t o r lt e)) (begin-refused pool t o r h)
 
-      go : (x : Bool) → namesB (m .«queue_count») o ≡ x → (y : Bool) → busy (s .stages t) ≡ y → (z : Bool) → limitB o ≡ z → Goes (begin pool t o) (beginOf m cells t o)
+      go : (x : Bool) → namesB (m .«queue_count») o ≡ x → (y : Bool) → busy (s .stages t) ≡ y → (z : Bool) → limitB o ≡ z
+          → Goes (begin pool t o) (beginOf m cells t o)
       go false e y f z h = shut K.NoSuch tt (rw e)
       go true e true f z h = shut K.Busy tt (rw (e, idles, f))
       go true e false f false h = shut K.NoLimit tt (rw (e, idles, f, h))
@@ -199,7 +203,8 @@ module _ (n : ℕ) (fl : ℕ → Flavour) (mem : ℕ → ℕ) (c : ℕ) (lc : c 
   unfolding beginOf
   begin-own t o = ⊎-elim (λ h. rw (gate-none t h) (begin-refused pool t o K.NoSuch tt)) (λ h. begin-in t o h) (le-or-lt n t)
 
-  begin-other : (l : List ℕ) (t : ℕ) (o : CodeOperation) → (length l ≡ m .«place_count» * placeCells → ⊥) → Goes (begin (other l) t o) (beginOf m l t o)
+  begin-other : (l : List ℕ) (t : ℕ) (o : CodeOperation) → (length l ≡ m .«place_count» * placeCells → ⊥)
+      → Goes (begin (other l) t o) (beginOf m l t o)
   unfolding beginOf
   begin-other l t o h = rw (gate-other l t h) (begin-refused (other l) t o K.PoolLength refl)
 
@@ -248,7 +253,8 @@ module _ (n : ℕ) (fl : ℕ → Flavour) (mem : ℕ → ℕ) (c : ℕ) (lc : c 
 
   -- ---- any call
 
-  pub one-call : (call : Call) → ((l : List ℕ) → lentBy call ≡ other l → length l ≡ m .«place_count» * placeCells → ⊥) → Goes call (callOf m cells call)
+  pub one-call : (call : Call) → ((l : List ℕ) → lentBy call ≡ other l → length l ≡ m .«place_count» * placeCells → ⊥)
+      → Goes call (callOf m cells call)
   unfolding callOf
   one-call (begin pool t o) h = begin-own t o
   one-call (begin (other l) t o) h = begin-other l t o (h l refl)

@@ -81,7 +81,8 @@ module _ (n : ℕ) (fl : ℕ → Flavour) (places : ℕ) where
         → acceptedFrom jobs (run m cells calls .history) j + total n fl (b .state) j ≡ answered (run m cells calls .history) j + total n fl (behind .state) j
     pub fine : AllAllowed (run m cells calls .history)
 
-  pub run-goes : (jobs : ℕ → ℕ) (c : ℕ) (m : Machine) (cells : List ℕ) (b : Behind n fl jobs c m cells) (calls : List Call) → c + length calls < 2 ^ 62
+  pub run-goes : (jobs : ℕ → ℕ) (c : ℕ) (m : Machine) (cells : List ℕ) (b : Behind n fl jobs c m cells) (calls : List Call)
+      → c + length calls < 2 ^ 62
       → m .«place_count» ≡ places → Lends places calls → Ran jobs c m cells b calls
   unfolding runBy acceptedFrom answered AllAllowed Lends
   run-goes jobs c m cells b [] l e h = record {
@@ -128,7 +129,8 @@ pub record Started (k : ℕ) (flavors : List Flavor) (n : ℕ) (cells : List ℕ
   pub pool-length : length cells ≡ n * placeCells
   pub is : setupOf k flavors n cells ≡ after (freshMachine k flavors n) B.Done cells
 
-pub started : (k : ℕ) (flavors : List Flavor) (n : ℕ) (cells : List ℕ) → setupOf k flavors n cells .called .answer ≡ B.Done → Started k flavors n cells
+pub started : (k : ℕ) (flavors : List Flavor) (n : ℕ) (cells : List ℕ) → setupOf k flavors n cells .called .answer ≡ B.Done
+    → Started k flavors n cells
 unfolding setupOf
 started k flavors n cells h = go (countsB k n) refl (eqb (length cells) (n * placeCells)) refl
   where
