@@ -28,7 +28,8 @@ use Rattle.link.proofs.AgreeSource.{source-agree}
 use Rattle.link.proofs.AgreeOwn.{OwnNames, own-agree}
 use Rattle.link.proofs.LinkedLaws.{held-ring, fits}
 
-module _ (n : ℕ) (fl : ℕ → Flavour) (R : ℕ → ℕ → Ring) (s : State) (m : Machine) (cells : List ℕ) (w : Linked n fl R s m cells) (mem : ℕ → ℕ) (v : Inv n fl mem s) (c : ℕ)
+module _ (n : ℕ) (fl : ℕ → Flavour) (R : ℕ → ℕ → Ring) (s : State) (m : Machine) (cells : List ℕ) (w : Linked n fl R s m cells) (mem : ℕ → ℕ)
+    (v : Inv n fl mem s) (c : ℕ)
     (b : Bounded n c s) (lc : c < 2 ^ 62) (t : ℕ) (lt : t < n) (gm : Claim) (gc : CodeClaim) where
   abbrev W : Ring
   W = R t (s .queues t .top)
@@ -101,6 +102,7 @@ module _ (n : ℕ) (fl : ℕ → Flavour) (R : ℕ → ℕ → Ring) (s : State)
       own-batch-agree (fl t) (fl t) R t W (s .queues t) cells (fit t lt) gm gc (s .stages t) (high t lt) p (soon (ownBatch p) e)
   agree (source k p) e i h =
       let a : Aware n fl s t (source k p) = rw e at (v .aware t lt) in
-      source-agree (fl t) (fl k) R k W (s .queues k) cells (fit k (a .0)) gm gc (s .stages k) (high k (a .0)) (at (s .queues t)) p (a .2) (v .oks k (a .0) .fronts)
+      source-agree (fl t) (fl k) R k W (s .queues k) cells (fit k (a .0)) gm gc (s .stages k) (high k (a .0)) (at (s .queues t)) p (a .2)
+      (v .oks k (a .0) .fronts)
       (soon (source k p) e) (λ r j. ring-of (source k p) e k r (refl, j))
   agree (own k p) e i h = own-agree (fl t) R k t W (s .queues t) cells (fit t lt) gm gc p (rw e at (v .oks t lt)) (own-names p h)

@@ -47,7 +47,8 @@ pub record Fits (R : ℕ → Ring) (q : Queue) (cells : List ℕ) : Type 0 where
 -- thread's stage x, own flavour fo; queue k touched, of flavour fk; gm, gc: what a claim finds, in the model and in the code
 abbrev pub Agrees : (fo fk : Flavour) → (ℕ → ℕ → Ring) → (k : ℕ) → Ring → Claim → CodeClaim → List ℕ → Stage → Queue → Out → Type 0
 Agrees fo fk R k new gm gc cells x q o =
-    advanceOf (stageFor R new x) (flavorOf fo) (queueFor fk (R k) q) gc cells ≡ left (outFor fk R k new o) (noted (note gm fo x) (R k (q .ring)) new cells)
+    advanceOf (stageFor R new x) (flavorOf fo) (queueFor fk (R k) q) gc cells ≡ left (outFor fk R k new o)
+    (noted (note gm fo x) (R k (q .ring)) new cells)
 
 abbrev pub resizedFor : Flavour → (ℕ → Ring) → Ring → Resized → CodeResized
 resizedFor fl R new (more z) = M.Stage (resizeAt new z)

@@ -57,7 +57,8 @@ module _ (fo : Flavour) (R : ℕ → ℕ → Ring) (k : ℕ) (new : Ring) (q : Q
       either (leb (q .back) f) (λ t. rw (t₁, t))
       (λ t. either (eqb (wanted m d others) 0) (λ u. rw (t₁, t, t₂, e, u)) (λ u. rw (t₁, t, t₂, e, u)))
 
-module _ (fo fl : Flavour) (R : ℕ → ℕ → Ring) (k : ℕ) (new : Ring) (q : Queue) (cells : List ℕ) (w : Fits (R k) q cells) (gm : Claim) (gc : CodeClaim) (sk : Stage)
+module _ (fo fl : Flavour) (R : ℕ → ℕ → Ring) (k : ℕ) (new : Ring) (q : Queue) (cells : List ℕ) (w : Fits (R k) q cells) (gm : Claim) (gc : CodeClaim)
+    (sk : Stage)
     (top : hi sk q ≤ suc (q .back)) (mine : ℕ → ℕ) where
   abbrev Agree : SourceStage → Type 0
   Agree p = Agrees fo fl R k new gm gc cells (source k p) q (sourceStep fl fo k p q)

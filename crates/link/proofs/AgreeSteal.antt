@@ -25,7 +25,8 @@ pub record HeldRing (R : ℕ → Ring) (q : Queue) (cells : List ℕ) (r : ℕ) 
   pub tells : eqb (R (q .ring) .number .0) (R r .number .0) ≡ eqb r (q .ring)
 
 -- sk: the stage of the touched queue's owner
-module _ (fo fl : Flavour) (R : ℕ → ℕ → Ring) (k : ℕ) (new : Ring) (q : Queue) (cells : List ℕ) (w : Fits (R k) q cells) (gm : Claim) (gc : CodeClaim) (sk : Stage)
+module _ (fo fl : Flavour) (R : ℕ → ℕ → Ring) (k : ℕ) (new : Ring) (q : Queue) (cells : List ℕ) (w : Fits (R k) q cells) (gm : Claim) (gc : CodeClaim)
+    (sk : Stage)
     (top : hi sk q ≤ suc (q .back)) where
   abbrev Same : Stage → Out → Type 0
   Same x o = Agrees fo fl R k new gm gc cells x q o

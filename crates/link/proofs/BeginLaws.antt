@@ -86,7 +86,8 @@ first-calm fl t (do-batch m k others) = by-test Fresh (eqb k t) _ _ (λ e. from 
     from plain = record { none = refl; fits = λ C. tt; free = λ k r h. h }
     from andPop = record { none = pop-calm fl byBatch 0 .0; fits = λ C. pop-calm fl byBatch C .1; free = pop-free fl byBatch }
 
-module _ (n : ℕ) (fl : ℕ → Flavour) (R : ℕ → ℕ → Ring) (s : State) (m : Machine) (cells : List ℕ) (w : Linked n fl R s m cells) (mem : ℕ → ℕ) (v : Inv n fl mem s) (c : ℕ)
+module _ (n : ℕ) (fl : ℕ → Flavour) (R : ℕ → ℕ → Ring) (s : State) (m : Machine) (cells : List ℕ) (w : Linked n fl R s m cells) (mem : ℕ → ℕ)
+    (v : Inv n fl mem s) (c : ℕ)
     (b : Bounded n c s) (lc : c < 2 ^ 62) (t : ℕ) (lt : t < n) (o : CodeOperation) (idle-t : s .stages t ≡ idle) where
   abbrev x : Stage
   x = firstStage (fl t) t (operationOf o)

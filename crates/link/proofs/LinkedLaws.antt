@@ -24,7 +24,8 @@ use Rattle.link.proofs.AgreeResize.{Fits}
 use Rattle.link.proofs.AgreeSteal.{HeldRing}
 use Rattle.link.proofs.PoolLaws.{sound-cap, pool-read}
 
-module _ (n : ℕ) (fl : ℕ → Flavour) (R : ℕ → ℕ → Ring) (s : State) (m : Machine) (cells : List ℕ) (w : Linked n fl R s m cells) (mem : ℕ → ℕ) (v : Inv n fl mem s) where
+module _ (n : ℕ) (fl : ℕ → Flavour) (R : ℕ → ℕ → Ring) (s : State) (m : Machine) (cells : List ℕ) (w : Linked n fl R s m cells) (mem : ℕ → ℕ)
+    (v : Inv n fl mem s) where
   -- a read of a ring that the queue has or had, and that is live
   pub reads : (k r : ℕ) → Live n s k r → r < s .queues k .top → (i : ℕ) → readOf cells (R k r) (ix i) ≡ cell (s .queues k) r i
   reads k r l t i =

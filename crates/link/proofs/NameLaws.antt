@@ -142,7 +142,8 @@ extend-other R t r w k j d = go (ℕ-discrete k t)
     go (yes e) = ap (λ (f : ℕ → Ring). f j) (upd-same R t (upd (R t) r w) k e) ∙ upd-other (R t) r w j (λ z. d (e, z)) ∙ ap (λ (k : ℕ). R k j) (sym e)
     go (no e) = ap (λ (f : ℕ → Ring). f j) (upd-other R t (upd (R t) r w) k e)
 
-module _ (n : ℕ) (fl : ℕ → Flavour) (A B : ℕ → ℕ → Ring) (s : State) (m : Machine) (cells : List ℕ) (w : Linked n fl A s m cells) (mem : ℕ → ℕ) (v : Inv n fl mem s)
+module _ (n : ℕ) (fl : ℕ → Flavour) (A B : ℕ → ℕ → Ring) (s : State) (m : Machine) (cells : List ℕ) (w : Linked n fl A s m cells) (mem : ℕ → ℕ)
+    (v : Inv n fl mem s)
     (same : (k r : ℕ) → k < n → Named n s k r → B k r ≡ A k r) where
   pub renamed : Linked n fl B s m cells
   renamed = record {

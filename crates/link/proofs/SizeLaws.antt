@@ -82,7 +82,8 @@ module _ (new : Ring) (q : Queue) (ca : allowedB (cap q) ≡ true) (gm : Claim) 
       by-test Good (leb (q .front + cap q) b) _ _
       (λ t. by-test Good (ltb b (q .front + sizeOf (twiceOf (cap q)))) _ _ (λ u. twice-fine b (omega arith) (omega tests)) (λ u. tt)) (λ t. tt)
   push-fine x (push-resize b z) o r h e =
-      by-fine Good (resizeStep gm z q) (λ y. going q (push x (push-resize b y))) (ended q noRing) (λ r. going r (push x (push-write b))) (resize-fine z h e)
+      by-fine Good (resizeStep gm z q)
+      (λ y. going q (push x (push-resize b y))) (ended q noRing) (λ r. going r (push x (push-write b))) (resize-fine z h e)
       (λ y k. k) tt (λ r. tt)
   push-fine x (push-write b) o r h e = tt
   push-fine x (push-store b) o r h e = tt
@@ -91,7 +92,8 @@ module _ (new : Ring) (q : Queue) (ca : allowedB (cap q) ≡ true) (gm : Claim) 
       → Good (shrinkStep (offerFor gm (shrink w v z) q) w v z q)
   unfolding shrinkStep
   shrink-fine w v z h e =
-      by-fine Good (resizeStep gm z q) (λ y. going q (shrink w v y)) (ended q (job w v)) (λ r. ended r (job w v)) (resize-fine z h e) (λ y k. k) tt (λ r. tt)
+      by-fine Good (resizeStep gm z q)
+      (λ y. going q (shrink w v y)) (ended q (job w v)) (λ r. ended r (job w v)) (resize-fine z h e) (λ y k. k) tt (λ r. tt)
 
   -- a capacity that is offered to a pop, if it is not 0
   half-fine : (few : Bool) → ltb smallest (cap q) ≡ true → allowedB (cap q / 2) ≡ true
@@ -149,12 +151,14 @@ module _ (new : Ring) (q : Queue) (ca : allowedB (cap q) ≡ true) (gm : Claim) 
       by-test Good (leb x (cap q)) _ _ (λ t. tt)
       (λ t. by-test Good (leb x (sizeOf (holdingOf x))) _ _ (λ u. holding-fine x (omega tests) (omega tests)) (λ u. tt))
   own-fine fo k (reserve-resize w z) h e =
-      by-fine Good (resizeStep gm z q) (λ y. going q (own k (reserve-resize w y))) (ended q noRing) (λ r. going r (own k (own-back w))) (resize-fine z h e)
+      by-fine Good (resizeStep gm z q)
+      (λ y. going q (own k (reserve-resize w y))) (ended q noRing) (λ r. going r (own k (own-back w))) (resize-fine z h e)
       (λ y k. k) tt (λ r. tt)
   own-fine fo k (own-back w) h e = tt
   own-fine fo k (all-write j i v) h e = by-copy (StageFits (new .capacity)) k j (suc i) (λ t. tt) (λ t. tt)
   own-fine fo k (one-write j i v) h e =
-      by-turning Good fo k j (suc i) (setCell q (j .b + i) v) (λ t. by-stopped Good fo k j (j .n) (setCell q (j .b + i) v) (λ a z. tt) (λ z. tt) tt) (λ t. tt)
+      by-turning Good fo k j (suc i) (setCell q (j .b + i) v)
+      (λ t. by-stopped Good fo k j (j .n) (setCell q (j .b + i) v) (λ a z. tt) (λ z. tt) tt) (λ t. tt)
   own-fine fo k (swap-near j x) h e = tt
   own-fine fo k (swap-far j x near) h e = tt
   own-fine fo k (swap-put j x near far) h e = tt

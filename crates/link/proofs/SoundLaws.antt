@@ -39,7 +39,8 @@ all-of (suc n) f h = rw (all-of n f (λ i l. h i (omega arith)), h n (omega arit
 pub and-both : (a b : Bool) → a ≡ true → b ≡ true → (a && b) ≡ true
 and-both a b e f = rw (e, f)
 
-module _ (n : ℕ) (fl : ℕ → Flavour) (R : ℕ → ℕ → Ring) (s : State) (m : Machine) (cells : List ℕ) (w : Linked n fl R s m cells) (mem : ℕ → ℕ) (v : Inv n fl mem s)
+module _ (n : ℕ) (fl : ℕ → Flavour) (R : ℕ → ℕ → Ring) (s : State) (m : Machine) (cells : List ℕ) (w : Linked n fl R s m cells) (mem : ℕ → ℕ)
+    (v : Inv n fl mem s)
     (small : (k : ℕ) → k < n → (s .queues k .front < 2 ^ 63) × (s .queues k .back < 2 ^ 63)) where
   abbrev places : ℕ
   places = m .«place_count»

@@ -30,8 +30,10 @@ use Rattle.link.proofs.KeptLaws.{builds-one}
 use Rattle.link.proofs.NameLaws.{stage-as, stage-fits}
 use Rattle.link.proofs.StoreLaws.{Stored}
 
-module _ (n : ℕ) (fl : ℕ → Flavour) (R : ℕ → ℕ → Ring) (s : State) (m : Machine) (cells : List ℕ) (w : Linked n fl R s m cells) (mem : ℕ → ℕ) (v : Inv n fl mem s)
-    (t k : ℕ) (lt : t < n) (lk : k < n) (gm : Claim) (o : Out) (d : Does gm (fl t) t k (s .stages t) (s .queues k) o) (v′ : Inv n fl mem (stored s t k o))
+module _ (n : ℕ) (fl : ℕ → Flavour) (R : ℕ → ℕ → Ring) (s : State) (m : Machine) (cells : List ℕ) (w : Linked n fl R s m cells) (mem : ℕ → ℕ)
+    (v : Inv n fl mem s)
+    (t k : ℕ) (lt : t < n) (lk : k < n) (gm : Claim) (o : Out) (d : Does gm (fl t) t k (s .stages t) (s .queues k) o)
+    (v′ : Inv n fl mem (stored s t k o))
     (next : RingNumber) where
   abbrev s′ : State
   s′ = stored s t k o
@@ -151,7 +153,8 @@ module _ (n : ℕ) (fl : ℕ → Flavour) (R : ℕ → ℕ → Ring) (s : State)
         where
           pools : (p y : ℕ) → poolOf (writtenOf cells W (ix i) (readOf cells cur (ix i))) p y ≡ put (poolOf cells) (W .place .0) (i % c) (at (s .queues t) i) p y
           pools p y =
-              pool-write cells (m .«place_count») W (w .pool-length) (w .rings t (s .queues t .top) lt (inr (refl, was-built c f a))) i (readOf cells cur (ix i)) p y
+              pool-write cells (m .«place_count») W (w .pool-length) (w .rings t (s .queues t .top) lt (inr (refl, was-built c f a))) i
+              (readOf cells cur (ix i)) p y
               ∙ ap₂ (λ (a b : ℕ). put (poolOf cells) (W .place .0) (i % a) b p y) z (rd ∙ ap (λ (j : ℕ). at (s .queues j) i) kt)
 
       -- a claim: one more name

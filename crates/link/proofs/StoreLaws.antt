@@ -50,7 +50,8 @@ put-back m t k (J.Got number place) q x = refl
 pub few-queues : (n p : ℕ) → countsB n p ≡ true → n ≤ mostQueues
 few-queues n p h = leb-true n mostQueues (both (leb n mostQueues) _ (both (leb 1 n) _ h .1) .0)
 
-module _ (n : ℕ) (fl : ℕ → Flavour) (R : ℕ → ℕ → Ring) (s : State) (m : Machine) (cells : List ℕ) (w : Linked n fl R s m cells) (t k : ℕ) (lt : t < n) (lk : k < n)
+module _ (n : ℕ) (fl : ℕ → Flavour) (R : ℕ → ℕ → Ring) (s : State) (m : Machine) (cells : List ℕ) (w : Linked n fl R s m cells) (t k : ℕ) (lt : t < n)
+    (lk : k < n)
     (o : Out) where
   abbrev s′ : State
   s′ = stored s t k o

@@ -164,7 +164,8 @@ not-true : (b : Bool) → T b → not b ≡ false
 not-true true t = refl
 not-true false t = absurd t
 
-module _ (n : ℕ) (fl : ℕ → Flavour) (s : State) (m : Machine) (cells : List ℕ) (mem : ℕ → ℕ) (v : Inv n fl mem s) (c : ℕ) (b : Bounded n c s) (lc : c < 2 ^ 62) where
+module _ (n : ℕ) (fl : ℕ → Flavour) (s : State) (m : Machine) (cells : List ℕ) (mem : ℕ → ℕ) (v : Inv n fl mem s) (c : ℕ) (b : Bounded n c s)
+    (lc : c < 2 ^ 62) where
   pub small : (k : ℕ) → k < n → (s .queues k .front < 2 ^ 63) × (s .queues k .back < 2 ^ 63)
   small k l = let i = indices n fl c mem s v b k l in (omega (arith, i .0), omega (arith, i .1))
 
@@ -327,4 +328,5 @@ module _ (n : ℕ) (fl : ℕ → Flavour) (s : State) (m : Machine) (cells : Lis
         go : ClaimAt x → Turned
         go (no-claim f cl) = without R w (rw (f R (R t (s .queues t .top)))) (cl (R t (s .queues t .top)))
         go (a-claim a cb cl nb al) =
-            tests a cb cl nb (al (R t (s .queues t .top) .capacity) (w .sizes t lt)) (ltb (freePlace m) (m .«place_count»)) refl (ltb (m .«next_ring» .0) (2 ^ 64 - 1)) refl
+            tests a cb cl nb (al (R t (s .queues t .top) .capacity) (w .sizes t lt)) (ltb (freePlace m) (m .«place_count»)) refl
+            (ltb (m .«next_ring» .0) (2 ^ 64 - 1)) refl

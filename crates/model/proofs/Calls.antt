@@ -220,21 +220,22 @@ module _ (n : ℕ) (fl : ℕ → Flavour) where
   from-aware s t k (own i p) l f w = absurd f
 
   -- thread t alone goes from one neutral stage to another
-  module _ (s s′ : State) (t : ℕ) (c : Neutral (s .stages t)) (c′ : Neutral (s′ .stages t)) (a : (i : ℕ) → (i ≡ t → ⊥) → s′ .stages i ≡ s .stages i) where
-    ok-like : (q : Queue) (i : ℕ) → i < n → Ok (fl i) (s .stages i) q → Ok (fl i) (s′ .stages i) q
-    ok-like q = each (λ (i : ℕ). Ok (fl i) (s .stages i) q → Ok (fl i) (s′ .stages i) q) t
-        (λ o. (let x = at-rest (s .stages t) q c in let y = at-rest (s′ .stages t) q c′ in
-        ok-as (fl t) (s .stages t) (s′ .stages t) q o (y .low ∙ sym (x .low)) (y .high ∙ sym (x .high)) (y .stage (fl t)))) (λ i h d o. rw (a i d) o)
+  module _ (s s′ : State) (t : ℕ) (c : Neutral (s .stages t)) (c′ : Neutral (s′ .stages t)) (a : (i : ℕ) → (i ≡ t → ⊥) → s′ .stages i ≡ s .stages i)
+    where
+      ok-like : (q : Queue) (i : ℕ) → i < n → Ok (fl i) (s .stages i) q → Ok (fl i) (s′ .stages i) q
+      ok-like q = each (λ (i : ℕ). Ok (fl i) (s .stages i) q → Ok (fl i) (s′ .stages i) q) t
+          (λ o. (let x = at-rest (s .stages t) q c in let y = at-rest (s′ .stages t) q c′ in
+          ok-as (fl t) (s .stages t) (s′ .stages t) q o (y .low ∙ sym (x .low)) (y .high ∙ sym (x .high)) (y .stage (fl t)))) (λ i h d o. rw (a i d) o)
 
-    view-like : (q : Queue) (i : ℕ) → i < n → view (s′ .stages i) q ≡ view (s .stages i) q
-    view-like q = each (λ (i : ℕ). view (s′ .stages i) q ≡ view (s .stages i) q) t
-        (let x = at-rest (s .stages t) q c in let y = at-rest (s′ .stages t) q c′ in rw (x .low, y .low, x .high, y .high))
-        (λ i h d. ap (λ (x : Stage). view x q) (a i d))
+      view-like : (q : Queue) (i : ℕ) → i < n → view (s′ .stages i) q ≡ view (s .stages i) q
+      view-like q = each (λ (i : ℕ). view (s′ .stages i) q ≡ view (s .stages i) q) t
+          (let x = at-rest (s .stages t) q c in let y = at-rest (s′ .stages t) q c′ in rw (x .low, y .low, x .high, y .high))
+          (λ i h d. ap (λ (x : Stage). view x q) (a i d))
 
-    amount-like : (q : Queue) (j i : ℕ) → i < n → amount (s′ .stages i) q j ≡ amount (s .stages i) q j
-    amount-like q j = each (λ (i : ℕ). amount (s′ .stages i) q j ≡ amount (s .stages i) q j) t
-        (let x = at-rest (s .stages t) q c in let y = at-rest (s′ .stages t) q c′ in rw (x .low, y .low, x .high, y .high, x .holds j, y .holds j))
-        (λ i h d. ap (λ (x : Stage). amount x q j) (a i d))
+      amount-like : (q : Queue) (j i : ℕ) → i < n → amount (s′ .stages i) q j ≡ amount (s .stages i) q j
+      amount-like q j = each (λ (i : ℕ). amount (s′ .stages i) q j ≡ amount (s .stages i) q j) t
+          (let x = at-rest (s .stages t) q c in let y = at-rest (s′ .stages t) q c′ in rw (x .low, y .low, x .high, y .high, x .holds j, y .holds j))
+          (λ i h d. ap (λ (x : Stage). amount x q j) (a i d))
 
   by-thief : (mem : ℕ → ℕ) (s s′ : State) (t k : ℕ) (o : Out) → Inv n fl mem s → t < n → k < n → Neutral (s .stages t)
       → Fair (fl k) k (s .stages k) (s .queues k) o → s′ .stages t ≡ o .stage → s′ .queues k ≡ o .queue
@@ -309,7 +310,8 @@ module _ (n : ℕ) (fl : ℕ → Flavour) where
       calmly mem s t (shrink a x z) (shrinkStep g a x z (s .queues t)) v l e (shrink-good g (fl t) a x z (s .queues t) (rw e at (v .oks t l)))
   step-from mem s t g (steal k p) v l e b =
       let w : Aware n fl s t (steal k p) = rw e at (v .aware t l) in
-      looking mem s t k (stealStep k p (s .queues k)) v l (w .0) (rw e tt) (steal-fair (fl k) k (s .stages k) (s .queues k) (v .oks k (w .0)) p (w .1))
+      looking mem s t k (stealStep k p (s .queues k)) v l (w .0) (rw e tt)
+      (steal-fair (fl k) k (s .stages k) (s .queues k) (v .oks k (w .0)) p (w .1))
   step-from mem s t g (len k p) v l e b =
       let h : Aware n fl s t (len k p) = rw e at (v .aware t l) in
       looking mem s t k (lengthStep k p (s .queues k)) v l (h .0) (rw e tt) (length-fair (fl k) k (s .stages k) (s .queues k) (v .oks k (h .0)) p)

@@ -39,7 +39,8 @@ unfolding resizeStep
 after-resize g t (resize-back c) q = (refl, refl, refl, refl, inl refl)
 after-resize lost t (resize-front c b) q = (refl, refl, refl, refl, inl refl)
 after-resize (got f) t (resize-front c b) q =
-    by-test (After (got f) t (resize-front c b) q) (eqb (q .front) b) _ _ (λ w. (refl, refl, refl, (c, f, refl, refl))) (λ w. (refl, refl, refl, (c, f, refl, refl)))
+    by-test (After (got f) t (resize-front c b) q) (eqb (q .front) b) _ _
+    (λ w. (refl, refl, refl, (c, f, refl, refl))) (λ w. (refl, refl, refl, (c, f, refl, refl)))
 after-resize g t (resize-copy c b i f) q =
     by-test (After g t (resize-copy c b i f) q) (eqb (suc i) b) _ _ (λ w. (refl, refl, (c, f, refl, refl))) (λ w. (refl, refl, (c, f, refl, refl)))
 after-resize g t (resize-swap c f) q = (refl, refl, (c, f, refl, refl))
@@ -78,7 +79,8 @@ module _ (g : Offer) (fo : Flavour) (t : ℕ) where
       (λ w. still refl refl refl refl refl refl (λ j r h. absurd h)))
       (λ u. still refl refl refl refl refl refl (λ j r h. absurd h))
   push-does x (push-resize b z) q =
-      by-after (D t (push x (push-resize b z)) q) (g .claim) t z q (resizeStep (g .claim) z q) (λ y. going q (push x (push-resize b y))) (ended q noRing)
+      by-after (D t (push x (push-resize b z)) q) (g .claim) t z q (resizeStep (g .claim) z q)
+      (λ y. going q (push x (push-resize b y))) (ended q noRing)
       (λ r. going r (push x (push-write b))) (after-resize (g .claim) t z q) (λ y e. record { effect = e; holds = λ j r h. absurd h })
       (λ e. record { effect = e; holds = λ j r h. absurd h }) (λ r e. record { effect = e; holds = λ j r h. absurd h })
   push-does x (push-write b) q = record { effect = (refl, refl, refl, refl); holds = λ j r h. absurd h }
@@ -87,7 +89,8 @@ module _ (g : Offer) (fo : Flavour) (t : ℕ) where
   shrink-does : (w : Popper) (v : ℕ) (z : ResizeStage) (q : Queue) → D t (shrink w v z) q (shrinkStep g w v z q)
   unfolding shrinkStep
   shrink-does w v z q =
-      by-after (D t (shrink w v z) q) (g .claim) t z q (resizeStep (g .claim) z q) (λ y. going q (shrink w v y)) (ended q (job w v)) (λ r. ended r (job w v))
+      by-after (D t (shrink w v z) q) (g .claim) t z q (resizeStep (g .claim) z q)
+      (λ y. going q (shrink w v y)) (ended q (job w v)) (λ r. ended r (job w v))
       (after-resize (g .claim) t z q) (λ y e. record { effect = e; holds = λ j r h. absurd h })
       (λ e. record { effect = e; holds = λ j r h. absurd h }) (λ r e. record { effect = e; holds = λ j r h. absurd h })
 
@@ -236,7 +239,8 @@ module _ (g : Offer) (fo : Flavour) (t : ℕ) where
       (λ u. by-test (D t (own k (reserve-front w b)) q) (leb (b - q .front + w .n) (g .capacity)) _ _
       (λ y. still refl refl refl refl refl refl (λ j i h. inl h)) (λ y. still refl refl refl refl refl refl (λ j i h. absurd h)))
   own-does k (reserve-resize w z) q =
-      by-after (D t (own k (reserve-resize w z)) q) (g .claim) t z q (resizeStep (g .claim) z q) (λ y. going q (own k (reserve-resize w y))) (ended q noRing)
+      by-after (D t (own k (reserve-resize w z)) q) (g .claim) t z q (resizeStep (g .claim) z q)
+      (λ y. going q (own k (reserve-resize w y))) (ended q noRing)
       (λ r. going r (own k (own-back w))) (after-resize (g .claim) t z q) (λ y e. record { effect = e; holds = λ j r h. inl h })
       (λ e. record { effect = e; holds = λ j r h. absurd h }) (λ r e. record { effect = e; holds = λ j r h. inl h })
   own-does k (own-back w) q = still refl refl refl refl refl refl (λ j i h. inl h)

@@ -73,7 +73,8 @@ jump-lifo fl w (lifo-store i) q m o a b = jump-of fl (lifoPop w (lifo-store i)) 
 jump-lifo fl w (lifo-reload i) q m o a b = jump-of fl (lifoPop w (lifo-reload i)) q m o (omega arith) b refl refl refl (λ j. refl) (o .stage)
 jump-lifo fl w (lifo-restore i) q m o a b = absurd (omega arith)
 jump-lifo fl w (lifo-last i f) q m o a b =
-    jump-of fl (lifoPop w (lifo-last i f)) q m o (omega arith) b refl refl refl (λ j. refl) (o .stage .0, (o .stage .1 .0, o .stage .1 .1, omega arith))
+    jump-of fl (lifoPop w (lifo-last i f)) q m o (omega arith) b refl refl refl
+    (λ j. refl) (o .stage .0, (o .stage .1 .0, o .stage .1 .1, omega arith))
 jump-lifo fl w (lifo-exchange i f v) q m o a b =
     jump-of fl (lifoPop w (lifo-exchange i f v)) q m o (omega arith) b refl refl refl (λ j. refl)
     (o .stage .0, (o .stage .1 .0, o .stage .1 .1, omega arith, λ e. absurd (omega arith)))

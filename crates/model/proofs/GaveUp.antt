@@ -58,7 +58,8 @@ module _ (g : Offer) (fo : Flavour) where
       by-test (U (push x (push-front b)) q) (leb (q .front + cap q) b) _ _
       (λ t. by-test (U (push x (push-front b)) q) (ltb b (q .front + g .capacity)) _ _ (λ u h. (tt, refl, refl)) (λ u h. (tt, refl, refl))) (λ t h. absurd h)
   push-gave-up x (push-resize b z) q =
-      by-resize-early (push x (push-resize b z)) z q (λ y. going q (push x (push-resize b y))) (ended q noRing) (λ r. going r (push x (push-write b))) refl
+      by-resize-early (push x (push-resize b z)) z q
+      (λ y. going q (push x (push-resize b y))) (ended q noRing) (λ r. going r (push x (push-write b))) refl
       (λ h. h) (λ y h. h) (λ y. refl) refl (λ r h. h)
   push-gave-up x (push-write b) q = λ h. absurd h
   push-gave-up x (push-store b) q = λ h. absurd h
@@ -168,7 +169,8 @@ module _ (g : Offer) (fo : Flavour) where
       by-test (U (own k (reserve-front w b)) q) (leb (b - q .front + w .n) (cap q)) _ _ (λ t u. absurd u)
       (λ t. by-test (U (own k (reserve-front w b)) q) (leb (b - q .front + w .n) (g .capacity)) _ _ (λ z u. (tt, refl, refl)) (λ z u. (tt, refl, refl)))
   own-gave-up k (reserve-resize w z) q =
-      by-resize-early (own k (reserve-resize w z)) z q (λ y. going q (own k (reserve-resize w y))) (ended q noRing) (λ r. going r (own k (own-back w))) refl
+      by-resize-early (own k (reserve-resize w z)) z q
+      (λ y. going q (own k (reserve-resize w y))) (ended q noRing) (λ r. going r (own k (own-back w))) refl
       (λ h. h) (λ y h. h) (λ y. refl) refl (λ r h. h)
   own-gave-up k (own-back w) q = λ u. absurd u
   own-gave-up k (all-write h i v) q = λ u. absurd (copy-never k h (suc i) (setCell q (slot fo h i) v) u)

@@ -96,7 +96,8 @@ slow-push g x (push-front b) q o =
     by-test (Slow (q .back + 0)) (leb (q .front + cap q) b) _ _
     (λ t. by-test (Slow (q .back + 0)) (ltb b (q .front + g .capacity)) _ _ (λ u. omega arith) (λ u. omega arith)) (λ t. omega arith)
 slow-push g x (push-resize b z) q o =
-    by-resized (Slow (q .back + 0)) q (resizeStep (g .claim) z q) (λ y. going q (push x (push-resize b y))) (ended q noRing) (λ r. going r (push x (push-write b)))
+    by-resized (Slow (q .back + 0)) q (resizeStep (g .claim) z q)
+    (λ y. going q (push x (push-resize b y))) (ended q noRing) (λ r. going r (push x (push-write b)))
     (same-back (g .claim) z q) (λ y. omega arith) (omega arith) (λ r e. omega arith)
 slow-push g x (push-write b) q o = omega arith
 slow-push g x (push-store b) q o = omega arith
@@ -140,7 +141,8 @@ slow-own g fo k (reserve-front w b) q o =
     by-test (Slow (q .back + 0)) (leb (b - q .front + w .n) (cap q)) _ _ (λ t. omega arith)
     (λ t. by-test (Slow (q .back + 0)) (leb (b - q .front + w .n) (g .capacity)) _ _ (λ u. omega arith) (λ u. omega arith))
 slow-own g fo k (reserve-resize w z) q o =
-    by-resized (Slow (q .back + 0)) q (resizeStep (g .claim) z q) (λ y. going q (own k (reserve-resize w y))) (ended q noRing) (λ r. going r (own k (own-back w)))
+    by-resized (Slow (q .back + 0)) q (resizeStep (g .claim) z q)
+    (λ y. going q (own k (reserve-resize w y))) (ended q noRing) (λ r. going r (own k (own-back w)))
     (same-back (g .claim) z q) (λ y. omega arith) (omega arith) (λ r e. omega arith)
 slow-own g fo k (own-back w) q o = omega arith
 slow-own g fo k (all-write h i x) q o =

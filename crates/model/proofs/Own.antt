@@ -185,7 +185,8 @@ module _ (fs fo : Flavour) (k : ℕ) (v : View) where
   own-good g (all-write h i x) q o w = all-written h i x g q o w
   own-good g (one-write h i x) q o w = one-written h i x g q o w
   own-good g (swap-near h x) q o w =
-      go-on (swap-near h x) (own k (swap-far h x (at q (h .b + x)))) q working o refl refl (λ m j. refl) (λ m. tt) (refl, w) (o .stage .0, o .stage .1, refl)
+      go-on (swap-near h x) (own k (swap-far h x (at q (h .b + x)))) q working o refl refl
+      (λ m j. refl) (λ m. tt) (refl, w) (o .stage .0, o .stage .1, refl)
   own-good g (swap-far h x near) q o w =
       go-on (swap-far h x near) (own k (swap-put h x near (at q (h .b + (h .n - suc x))))) q working o refl refl (λ m j. refl) (λ m. tt) (refl, w)
       (o .stage .0, o .stage .1, o .stage .2, refl)

@@ -23,7 +23,8 @@ pub shrink-good : (g : Offer) (fl : Flavour) (p : Popper) (v : ℕ) (z : ResizeS
     → Good Calm fl (shrink p v z) q (shrinkStep g p v z q)
 unfolding shrinkStep
 shrink-good g fl p v z q o =
-    by-resize (Good Calm fl (shrink p v z) q) 0 fl q (resizeStep (g .claim) z q) (λ y. going q (shrink p v y)) (ended q (job p v)) (λ r. ended r (job p v))
+    by-resize (Good Calm fl (shrink p v z) q) 0 fl q (resizeStep (g .claim) z q)
+    (λ y. going q (shrink p v y)) (ended q (job p v)) (λ r. ended r (job p v))
     (resize-good 0 fl (g .claim) z q (o .ring-top) (o .order) (o .stage))
     (λ y k. quiet Calm fl (shrink p v z) (shrink p v y) working q o refl refl (λ m j. refl) (λ m h. tt) tt k)
     (quiet Calm fl (shrink p v z) idle (job p v) q o refl refl (λ m j. omega arith) (λ m h. tt) tt tt)
@@ -47,7 +48,8 @@ reading-good : (g : Offer) (fl : Flavour) (s : Stage) (p : Popper) (d v : ℕ) (
 reading-good g fl s p d v q o e f h r =
     by-test (Good Calm fl s q) (ltb 0 (g .capacity) && leb d (g .capacity)) _ _
     (λ u. (let w = both-of (ltb 0 (g .capacity)) (leb d (g .capacity)) u in let w₀ = w .0 in let w₁ = w .1 in
-    quiet Calm fl s (shrink p v (resize-back (g .capacity))) working q o (sym e) (sym f) (λ m j. omega (arith, h j)) (λ m h. tt) tt (omega tests, omega tests)))
+    quiet Calm fl s (shrink p v (resize-back (g .capacity))) working q o (sym e) (sym f)
+    (λ m j. omega (arith, h j)) (λ m h. tt) tt (omega tests, omega tests)))
     (λ u. quiet Calm fl s idle (job p v) q o (sym e) (sym f) (λ m j. omega (arith, h j)) (λ m h. tt) tt tt)
 
 -- ---- FIFO

@@ -47,7 +47,8 @@ push-resized : (g : Offer) (fl : Flavour) (x b : ℕ) (z : ResizeStage) (q : Que
     → Good Calm fl (push x (push-resize b z)) q (pushStep g x (push-resize b z) q)
 unfolding pushStep
 push-resized g fl x b z q o =
-    by-resize (Good Calm fl (push x (push-resize b z)) q) 1 fl q (resizeStep (g .claim) z q) (λ y. going q (push x (push-resize b y))) (ended q noRing)
+    by-resize (Good Calm fl (push x (push-resize b z)) q) 1 fl q (resizeStep (g .claim) z q)
+    (λ y. going q (push x (push-resize b y))) (ended q noRing)
     (λ r. going r (push x (push-write b))) (resize-good 1 fl (g .claim) z q (o .ring-top) (o .order) (o .stage .1))
     (λ y k. quiet Calm fl (push x (push-resize b z)) (push x (push-resize b y)) working q o refl refl (λ m j. refl) (λ m h. h) tt (o .stage .0, k))
     (quiet Calm fl (push x (push-resize b z)) idle noRing q o refl refl (λ m j. refl) (λ m h. tt) tt tt)

@@ -71,7 +71,8 @@ unfolding resizeStep
 resize-good need fl g (resize-back c) q t a o = (o .0, o .1, refl)
 resize-good need fl lost (resize-front c b) q t a o = tt
 resize-good need fl (got cells) (resize-front c b) q t a o =
-    by-test (ResizeGood need fl q) (eqb (q .front) b) _ _ (λ w. (o .0, o .1, λ x l h. absurd (omega tests))) (λ w. (o .0, o .1, o .2, omega tests, λ x l h. absurd (omega arith)))
+    by-test (ResizeGood need fl q) (eqb (q .front) b) _ _
+    (λ w. (o .0, o .1, λ x l h. absurd (omega tests))) (λ w. (o .0, o .1, o .2, omega tests, λ x l h. absurd (omega arith)))
 resize-good need fl g (resize-copy c b i cells) q t a o =
     let k = copied c b i cells q (omega arith) (o .3) (o .4) in
     by-test (ResizeGood need fl q) (eqb (suc i) b) _ _ (λ w. (o .0, o .1, λ x l h. k x l (omega tests))) (λ w. (o .0, o .1, o .2, omega tests, k))

@@ -217,7 +217,8 @@ pub source-rob : (fs fo : Flavour) (k : ℕ) (s : Stage) (q : Queue) → Ok fs s
     → SourceKnows fs fo p (at mq) (view s q) → Rob fs fo k s q p mq (sourceStep fs fo k p q)
 unfolding sourceStep
 source-rob fs fo k s q o mq (source-front m others) mo w =
-    look fs fo k s q o mq (source-front m others) (source k (source-back m others (q .front))) working mo refl refl (λ m j. refl) (λ m. tt) (refl, o .reach) tt
+    look fs fo k s q o mq (source-front m others) (source k (source-back m others (q .front))) working mo refl refl
+    (λ m j. refl) (λ m. tt) (refl, o .reach) tt
 source-rob fs fo k s q o mq (source-back m others f) mo w = looked-back fs fo k s q o mq m others f mo w
 source-rob fs fo k s q o mq (source-ring a b) mo w = ring-held fs fo k s q o mq a b (a .kind) mo w
 source-rob fs fo k s q o mq (source-first h) mo w = first-held fs fo k s q o mq h mo w
@@ -230,7 +231,8 @@ source-rob fs fo k s q o mq (all-reload h) mo w =
     (λ t. look fs fo k s q o mq (all-reload h) _ working mo refl refl (λ m j. refl) (λ m. tt) (refl, w) (mo .stage))
     (λ t. look fs fo k s q o mq (all-reload h) idle retry mo refl refl (λ m j. refl) (λ m. tt) tt tt)
 source-rob fs fo k s q o mq (all-exchange h) mo w =
-    by-test (Rob fs fo k s q (all-exchange h) mq) (eqb (q .front) (h .f)) _ _ (λ t. all-exchanged fs fo k s q o mq h _ (omega arith) mo w (omega tests))
+    by-test (Rob fs fo k s q (all-exchange h) mq) (eqb (q .front) (h .f)) _ _
+    (λ t. all-exchanged fs fo k s q o mq h _ (omega arith) mo w (omega tests))
     (λ t. look fs fo k s q o mq (all-exchange h) idle retry mo refl refl (λ m j. refl) (λ m. tt) tt tt)
 source-rob fs fo k s q o mq (one-first h x) mo w =
     by-test (Rob fs fo k s q (one-first h x) mq) (eqb (q .front) (h .f)) _ _ (λ t. first-exchanged fs fo k s q o mq h x mo w (omega tests))
@@ -238,7 +240,8 @@ source-rob fs fo k s q o mq (one-first h x) mo w =
 source-rob fs fo k s q o mq (one-back h i) mo w =
     let bk = o .backs in
     let i<n = mo .stage .1 in
-    by-test (Rob fs fo k s q (one-back h i) mq) (leb (q .back) (h .f)) _ _ (λ t. stop fs fo k s q o mq (one-back h i) h i mo (λ j. refl) (mo .stage .0) (omega arith) (w .2))
+    by-test (Rob fs fo k s q (one-back h i) mq) (leb (q .back) (h .f)) _ _
+    (λ t. stop fs fo k s q o mq (one-back h i) h i mo (λ j. refl) (mo .stage .0) (omega arith) (w .2))
     (λ t. look fs fo k s q o mq (one-back h i) (source k (one-read h i)) working mo refl refl (λ m j. refl) (λ m. tt)
     (refl, (w .0, span-of fs (view s q) (h .f) 1 (reach-le fs (lo s q) (h .f) (w .1)) (omega arith) (omega tests), w .2)) (mo .stage))
 source-rob fs fo k s q o mq (one-read h i) mo w =

@@ -143,7 +143,8 @@ module _ (n : ℕ) (fl : ℕ → Flavour) (jobs : ℕ → ℕ) (c : ℕ) (m : Ma
       let p = named-live a x in
       let q = named-live r y in
       let z = b .linked .numbers (p .0) (p .1) (q .0) (q .1) (p .2 .0) (q .2 .0) (live-named n fl jobs s (b .inv) (p .0) (p .1) (p .2))
-      (live-named n fl jobs s (b .inv) (q .0) (q .1) (q .2)) (ap (λ (i : Ring). i .number .0) (sym (p .3)) ∙ e ∙ ap (λ (i : Ring). i .number .0) (q .3)) in
+      (live-named n fl jobs s (b .inv) (q .0) (q .1) (q .2))
+      (ap (λ (i : Ring). i .number .0) (sym (p .3)) ∙ e ∙ ap (λ (i : Ring). i .number .0) (q .3)) in
       p .3 ∙ ap₂ (b .names) (z .0) (z .1) ∙ sym (q .3)
 
   pub next-above : (a : Ring) → LiveRing m a → a .number .0 < m .«next_ring» .0
