@@ -1,0 +1,17 @@
+pub mod CountLaws
+pub mod CellLaws
+pub mod Stable
+pub mod Good
+pub mod Resize
+pub mod Push
+pub mod Pops
+pub mod Exchange
+pub mod Steal
+pub mod Batch
+pub mod Own
+pub mod Source
+pub mod Calls
+pub mod Indices
+pub mod Effects
+pub mod Places
+pub mod GaveUp

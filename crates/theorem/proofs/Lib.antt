@@ -1,0 +1,5 @@
+pub mod OneCall
+pub mod Runs
+pub mod Theorem
+pub mod Wrong
+pub mod Named
