@@ -1,0 +1,70 @@
+//! Plays sessions on the crate and on the program `play`, and fails at the first difference.
+mod events;
+mod interleaved;
+mod moods;
+mod places;
+mod random;
+mod session;
+mod whole;
+
+use events::Events;
+use session::Judge;
+
+const USAGE: &str = "driver whole SEED OPERATIONS | exhaustive LENGTH | interleaved SEED STEPS";
+
+fn main() {
+    let words: Vec<String> = std::env::args().skip(1).collect();
+    let number = |at: usize| words.get(at).and_then(|word| word.parse::<u64>().ok()).expect(USAGE);
+    match words.first().map(String::as_str) {
+        Some("whole") => whole_operations(number(1), number(2)),
+        Some("exhaustive") => exhaustive(number(1) as u32),
+        Some("interleaved") => interleavings(number(1), number(2)),
+        _ => panic!("{}", USAGE),
+    }
+}
+
+fn whole_operations(first: u64, wanted: u64) {
+    let mut judge = Judge::new();
+    let (mut seed, mut operations) = (first, 0);
+    while operations < wanted {
+        let (session, more) = whole::session(seed, 4000);
+        judge.submit(session);
+        operations += more;
+        seed += 1;
+    }
+    judge.finish();
+    println!("{} whole operations in the sessions {} to {}: no difference", operations, first, seed - 1);
+}
+
+fn exhaustive(longest: u32) {
+    let mut judge = Judge::new();
+    for length in 1..=longest {
+        for start in [(0, 0), (2, 1), (5, 3)] {
+            let (sequences, operations) = whole::exhaustive(&mut judge, length, start);
+            println!("all {} sequences of {} operations from {:?} jobs, {} operations in all", sequences, length, start, operations);
+        }
+    }
+    judge.finish();
+    println!("all sequences of up to {} operations: no difference", longest);
+}
+
+fn interleavings(first: u64, wanted: u64) {
+    let mut judge = Judge::new();
+    let mut events = Events::default();
+    let (mut seed, mut steps, mut operations) = (first, 0, 0);
+    while steps < wanted {
+        let (session, more_steps, more_operations) = moods::session(seed, 10_000, &mut events);
+        judge.submit(session);
+        steps += more_steps;
+        operations += more_operations;
+        seed += 1;
+    }
+    judge.finish();
+    events.print();
+    println!("{} steps of {} operations in the sessions {} to {}: no difference", steps, operations, first, seed - 1);
+    let missing = events.missing();
+    if !missing.is_empty() {
+        println!("but these never happened: {}", missing.join("; "));
+        std::process::exit(1);
+    }
+}
