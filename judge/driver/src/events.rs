@@ -52,7 +52,8 @@ fn required() -> Vec<String> {
         "length of another queue",
         "length below 0",
         "length that the crate's other order of loads changes",
-        "answer 8, where the crate grows past 256 cells",
+        "answer 8 of a push",
+        "answer 8 of a batch",
     ]
     .map(String::from)
     .into();

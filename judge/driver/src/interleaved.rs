@@ -74,7 +74,8 @@ impl<'a> Interleaved<'a> {
         self.session.begin(thread, operation, line("working", &self.queues, &self.places));
     }
 
-    pub fn step(&mut self, thread: usize) {
+    /// Gives the crate's answer, if this was the last step.
+    pub fn step(&mut self, thread: usize) -> Option<Answer> {
         let report = self.players.step(thread);
         let before = std::mem::replace(&mut self.queues, self.players.shown());
         let mut running = self.running[thread].take().expect("a busy thread");
@@ -82,7 +83,7 @@ impl<'a> Interleaved<'a> {
             if report.answer.is_none() {
                 self.running[thread] = Some(running);
             }
-            return;
+            return report.answer;
         }
         let source = running.operation.source().unwrap_or(thread);
         running.first.get_or_insert(before[source].0);
@@ -103,7 +104,7 @@ impl<'a> Interleaved<'a> {
         match report.claimed {
             // The capacity was decided two steps earlier, at the load of front before the resize.
             Some(claimed) if claimed.capacity > LARGEST => {
-                self.events.count("answer 8, where the crate grows past 256 cells");
+                self.events.count(format!("answer 8 of a {}", running.operation.name()));
                 self.session.cut(running.steps[running.steps.len() - 3], "gave-up 8");
                 self.parted = true;
             }
@@ -116,6 +117,7 @@ impl<'a> Interleaved<'a> {
                 self.count_end(thread, source, &running, answer);
             }
         }
+        report.answer
     }
 
     /// The thread runs alone to the end of its operation.

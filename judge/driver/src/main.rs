@@ -4,13 +4,15 @@ mod interleaved;
 mod moods;
 mod places;
 mod random;
+mod script;
 mod session;
+mod tour;
 mod whole;
 
 use events::Events;
 use session::Judge;
 
-const USAGE: &str = "driver whole SEED OPERATIONS | exhaustive LENGTH | interleaved SEED STEPS";
+const USAGE: &str = "driver whole SEED OPERATIONS | exhaustive LENGTH | interleaved SEED STEPS | tour FILE | show FILE";
 
 fn main() {
     let words: Vec<String> = std::env::args().skip(1).collect();
@@ -19,6 +21,8 @@ fn main() {
         Some("whole") => whole_operations(number(1), number(2)),
         Some("exhaustive") => exhaustive(number(1) as u32),
         Some("interleaved") => interleavings(number(1), number(2)),
+        Some("tour") => tour(words.get(1).expect(USAGE)),
+        Some("show") => show(words.get(1).expect(USAGE)),
         _ => panic!("{}", USAGE),
     }
 }
@@ -66,5 +70,28 @@ fn interleavings(first: u64, wanted: u64) {
     if !missing.is_empty() {
         println!("but these never happened: {}", missing.join("; "));
         std::process::exit(1);
+    }
+}
+
+/// Plays the tour, and keeps it as FILE.session with the answers as FILE.expected.
+fn tour(file: &str) {
+    let mut events = Events::default();
+    let (session, steps, operations) = tour::session(&mut events);
+    std::fs::write(format!("{}.session", file), session.text()).unwrap();
+    std::fs::write(format!("{}.expected", file), session.expected()).unwrap();
+    let mut judge = Judge::new();
+    judge.submit(session);
+    judge.finish();
+    println!("the tour: {} steps of {} operations, no difference", steps, operations);
+    println!("not on the tour: {}", events.missing().join("; "));
+}
+
+/// Plays a session file on both, and prints what each says. `play` may go on where the two have parted.
+fn show(file: &str) {
+    let text = std::fs::read_to_string(file).expect(file);
+    let printed = Judge::new().printed(&text);
+    for ((call, answer), line) in script::play(&text).iter().zip(printed.lines()) {
+        let answer = answer.map_or("working".to_string(), |answer| format!("{:?}", answer));
+        println!("{:<24} crate: {:<12} play: {}", call, answer, line.replace('\t', " | "));
     }
 }

@@ -124,16 +124,25 @@ fn open(game: &mut Interleaved, random: &mut Random, levels: &mut [usize], job: 
         // A larger ring with few enough jobs that the next pops shrink it.
         30..=44 => &[65, 33],
         45 => &[129, 65],
-        // Round the ring, so that what a sleeper has loaded is stale.
-        46 => &[256, 0, 256, 0],
-        47 => &[256],
+        46 => &[256],
         // A push that does not fit.
-        48 => &[257],
+        47 => &[257],
+        48 => return fall_behind(game, owner, (owner + 1) % levels.len(), job),
         _ => &[],
     };
     for level in way {
         reach(game, owner, *level, job);
         levels[owner] = *level;
+    }
+}
+
+/// A thief loads front and sleeps, while the owner pushes and pops more than its largest ring holds.
+fn fall_behind(game: &mut Interleaved, owner: usize, thief: usize, job: &mut u64) {
+    reach(game, thief, LARGEST / 2, job);
+    game.begin(thief, Operation::Batch(owner, usize::MAX));
+    game.step(thief);
+    for level in [130, 0, 130] {
+        reach(game, owner, level, job);
     }
 }
 

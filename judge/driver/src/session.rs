@@ -91,11 +91,22 @@ impl Judge {
 
     pub fn submit(&mut self, session: Session) {
         self.finish();
-        fs::write(self.folder.join("session"), session.text()).unwrap();
+        self.playing = Some((self.start(&session.text()), session));
+    }
+
+    fn start(&self, text: &str) -> Child {
+        fs::write(self.folder.join("session"), text).unwrap();
         let input = File::open(self.folder.join("session")).unwrap();
         let output = File::create(self.folder.join("output")).unwrap();
         let child = Command::new(&self.play).stdin(input).stdout(output).stderr(Stdio::inherit()).spawn();
-        self.playing = Some((child.expect("play does not start"), session));
+        child.expect("play does not start")
+    }
+
+    /// What `play` prints for a session.
+    pub fn printed(&self, text: &str) -> String {
+        let status = self.start(text).wait().unwrap();
+        assert!(status.success(), "play ended with {}", status);
+        fs::read_to_string(self.folder.join("output")).unwrap()
     }
 
     /// Waits for the last session and compares it. A difference ends the run.
