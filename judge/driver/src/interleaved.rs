@@ -1,10 +1,10 @@
 //! Interleavings: the crate's threads take scripted steps; after each the queues are written down for `play`.
 use crate::events::{flavour, Events, KINDS};
 use crate::places::Places;
+use crate::players::Players;
 use crate::session::{line, Queues, Session};
 use asked::{Answer, Operation, Shown};
-use scripted::baton::{Access, Report};
-use scripted::players::Players;
+use baton::{Access, Report};
 
 /// The largest ring of the machine. Where the crate goes beyond it, the machine answers 8.
 pub const LARGEST: usize = 256;

@@ -3,6 +3,7 @@ mod events;
 mod interleaved;
 mod moods;
 mod places;
+mod players;
 mod random;
 mod script;
 mod session;

@@ -118,9 +118,9 @@ pub fn session(seed: u64, calls: usize, events: &mut Events) -> (Session, u64, u
 /// Brings a queue to where something is about to happen. Whoever is in the middle of an operation sleeps through it.
 fn open(game: &mut Interleaved, random: &mut Random, levels: &mut [usize], job: &mut u64) {
     let owner = random.below(levels.len());
-    let level = levels[owner];
+    let here = [levels[owner]];
     let way: &[usize] = match random.below(200) {
-        0..=29 => &[level],
+        0..=29 => &here,
         // A larger ring with few enough jobs that the next pops shrink it.
         30..=44 => &[65, 33],
         45 => &[129, 65],

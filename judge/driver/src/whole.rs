@@ -3,17 +3,17 @@
 use crate::interleaved::LARGEST;
 use crate::moods::{choose, LEVELS, LIMITS};
 use crate::places::Places;
+use crate::players::{new_queues, shown_with_ring};
 use crate::random::Random;
 use crate::session::{line, Judge, Queues, Session};
 use asked::{Answer, Operation};
-use scripted::baton::unscripted;
-use scripted::players::{new_queues, shown_with_ring};
+use baton::unscripted;
 
 struct Whole {
     crate_workers: Vec<original::Worker<u64>>,
     crate_queues: Vec<original::Stealer<u64>>,
-    workers: Vec<scripted::deque::Worker<u64>>,
-    stealers: Vec<scripted::deque::Stealer<u64>>,
+    workers: Vec<scripted::Worker<u64>>,
+    stealers: Vec<scripted::Stealer<u64>>,
     queues: Queues,
     places: Places,
     session: Session,
@@ -53,7 +53,7 @@ impl Whole {
         }
         let answer = original::perform(operation, &self.crate_workers[thread], &self.crate_queues);
         let before = unscripted();
-        let copy = scripted::deque::perform(operation, &self.workers[thread], &self.stealers);
+        let copy = scripted::perform(operation, &self.workers[thread], &self.stealers);
         let steps = unscripted() - before;
         let queues: Queues = self.stealers.iter().map(shown_with_ring).collect();
         assert_eq!(answer, copy, "the crate and its copy");
@@ -99,10 +99,15 @@ impl Whole {
     /// The owner pushes or pops until its queue has this length.
     fn reach(&mut self, owner: usize, level: usize) {
         while self.length(owner) != level {
-            self.job += 1;
+            let job = self.next_job();
             let more = self.length(owner) < level;
-            self.play(owner, if more { Operation::Push(self.job) } else { Operation::Pop });
+            self.play(owner, if more { Operation::Push(job) } else { Operation::Pop });
         }
+    }
+
+    fn next_job(&mut self) -> u64 {
+        self.job = self.job.wrapping_add(1);
+        self.job
     }
 }
 
@@ -111,6 +116,7 @@ pub fn session(seed: u64, operations: u64) -> (Session, u64) {
     let mut random = Random::new(seed);
     let lifo: Vec<bool> = (0..1 + random.below(4)).map(|_| random.one_in(2)).collect();
     let mut game = Whole::new(format!("whole {}", seed), &lifo);
+    game.job = random.next();
     while game.operations < operations {
         let levels: Vec<usize> = lifo.iter().map(|_| random.of(&LEVELS)).collect();
         for (owner, level) in levels.iter().enumerate() {
@@ -121,8 +127,8 @@ pub fn session(seed: u64, operations: u64) -> (Session, u64) {
         let thieving = random.of(&[10, 50, 90]);
         for _ in 0..random.below(60) {
             let thread = random.below(lifo.len());
-            game.job += 1;
-            let operation = choose(&mut random, thread, lifo.len(), game.length(thread), levels[thread], thieving, game.job);
+            let job = game.next_job();
+            let operation = choose(&mut random, thread, lifo.len(), game.length(thread), levels[thread], thieving, job);
             game.play(thread, operation);
         }
     }
@@ -171,8 +177,7 @@ pub fn exhaustive(judge: &mut Judge, length: u32, start: (usize, usize)) -> (u64
                 for _ in 0..length {
                     let (thread, operation) = moves[rest % moves.len()];
                     rest /= moves.len();
-                    game.job += 1;
-                    let job = game.job;
+                    let job = game.next_job();
                     game.play(thread, if operation == Operation::Push(0) { Operation::Push(job) } else { operation });
                 }
                 game.reach(0, 0);

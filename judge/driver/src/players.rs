@@ -1,14 +1,13 @@
 //! A session's queues and the threads that own them.
-use crate::baton::{Report, Seat, Table};
-use crate::deque::{new_worker, perform, shown, Stealer, Worker};
-use crate::memory::{forget_rings, ring_number};
 use asked::{Operation, Shown};
+use baton::{rings, Report, Seat, Table};
+use scripted::{new_worker, perform, shown, Stealer, Worker};
 use std::sync::Arc;
 use std::thread::{self, JoinHandle};
 
 /// New queues, ring q for queue q. Those of the last session must be gone.
 pub fn new_queues(lifo: &[bool]) -> (Vec<Worker<u64>>, Vec<Stealer<u64>>) {
-    forget_rings();
+    rings::forget();
     let workers: Vec<_> = lifo.iter().map(|&lifo| new_worker(lifo)).collect();
     let stealers = workers.iter().map(Worker::stealer).collect();
     (workers, stealers)
@@ -17,7 +16,7 @@ pub fn new_queues(lifo: &[bool]) -> (Vec<Worker<u64>>, Vec<Stealer<u64>>) {
 /// A queue as it stands, with the number of its ring.
 pub fn shown_with_ring(queue: &Stealer<u64>) -> (Shown, usize) {
     let shown = shown(queue);
-    (shown, ring_number(shown.cells))
+    (shown, rings::number(shown.cells))
 }
 
 /// Threads that each own a queue and take a step when told.

@@ -1,5 +1,7 @@
 //! The baton: a scripted thread makes one shared access each time it is handed it, runs on to its next access or to the
 //! end of its operation, and hands it back.
+pub mod rings;
+
 use asked::{Answer, Operation};
 use std::cell::{Cell, RefCell};
 use std::sync::atomic::{AtomicUsize, Ordering};
@@ -38,15 +40,15 @@ pub struct Report {
 const DRIVER: usize = usize::MAX;
 
 /// Where the baton is, and what its holders tell each other.
-pub(crate) struct Table {
+pub struct Table {
     turn: AtomicUsize,
     driver: Thread,
-    pub(crate) order: Mutex<Option<Operation>>,
+    pub order: Mutex<Option<Operation>>,
     report: Mutex<Report>,
 }
 
 impl Table {
-    pub(crate) fn new() -> Table {
+    pub fn new() -> Table {
         Table {
             turn: AtomicUsize::new(DRIVER),
             driver: thread::current(),
@@ -56,7 +58,7 @@ impl Table {
     }
 
     /// The driver hands the baton to a thread, and has it back when this returns.
-    pub(crate) fn run(&self, number: usize, thread: &Thread) -> Report {
+    pub fn run(&self, number: usize, thread: &Thread) -> Report {
         *self.report.lock().unwrap() = Report::default();
         self.turn.store(number, Ordering::Release);
         thread.unpark();
@@ -73,9 +75,9 @@ impl Table {
 
 /// A scripted thread's seat at the table.
 #[derive(Clone)]
-pub(crate) struct Seat {
-    pub(crate) table: Arc<Table>,
-    pub(crate) number: usize,
+pub struct Seat {
+    pub table: Arc<Table>,
+    pub number: usize,
 }
 
 thread_local! {
@@ -84,26 +86,26 @@ thread_local! {
 }
 
 impl Seat {
-    pub(crate) fn take(&self) {
+    pub fn take(&self) {
         SEAT.with(|seat| *seat.borrow_mut() = Some(self.clone()));
     }
 
-    pub(crate) fn wait(&self) {
+    pub fn wait(&self) {
         self.table.wait(self.number);
     }
 
-    pub(crate) fn hand_back(&self) {
+    pub fn hand_back(&self) {
         self.table.turn.store(DRIVER, Ordering::Release);
         self.table.driver.unpark();
     }
 
-    pub(crate) fn answer(&self, answer: Answer) {
+    pub fn answer(&self, answer: Answer) {
         self.table.report.lock().unwrap().answer = Some(answer);
     }
 }
 
 /// A shared access. A thread with no seat makes it at once, and it is counted.
-pub(crate) fn shared<R>(act: impl FnOnce() -> (R, Access)) -> R {
+pub fn shared<R>(act: impl FnOnce() -> (R, Access)) -> R {
     SEAT.with(|seat| match &*seat.borrow() {
         Some(seat) => {
             seat.hand_back();
@@ -124,7 +126,7 @@ pub fn unscripted() -> usize {
     UNSCRIPTED.with(|count| count.get())
 }
 
-pub(crate) fn note_claim(ring: usize, capacity: usize) {
+fn note_claim(ring: usize, capacity: usize) {
     SEAT.with(|seat| {
         if let Some(seat) = &*seat.borrow() {
             seat.table.report.lock().unwrap().claimed = Some(Claimed { ring, capacity });

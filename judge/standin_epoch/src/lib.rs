@@ -1,6 +1,6 @@
 //! Stand-in for crossbeam_epoch: the ring pointer, each access of which is a step. Pinning is no step and nothing is
-//! freed here: `memory` keeps every ring to the session's end, so that a late read still finds its ring.
-use crate::baton::{shared, Access};
+//! freed here: a ring is kept to the session's end.
+use baton::{shared, Access};
 use std::marker::PhantomData;
 use std::sync::atomic::{AtomicPtr, Ordering};
 
