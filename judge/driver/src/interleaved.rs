@@ -2,7 +2,7 @@
 use crate::events::{flavour, Events, KINDS};
 use crate::places::Places;
 use crate::players::Players;
-use crate::session::{line, Queues, Session};
+use crate::session::{line, told, Queues, Session};
 use asked::{Answer, Operation, Shown};
 use baton::{Access, Report};
 
@@ -33,8 +33,6 @@ pub struct Interleaved<'a> {
     places: Places,
     pub session: Session,
     events: &'a mut Events,
-    pub steps: u64,
-    pub operations: u64,
     /// The machine has answered 8: the two sides go on differently, and the session is over.
     pub parted: bool,
 }
@@ -50,8 +48,6 @@ impl<'a> Interleaved<'a> {
             places: Places::new(lifo.len()),
             session: Session::new(name, lifo),
             events,
-            steps: 0,
-            operations: 0,
             parted: false,
         }
     }
@@ -71,7 +67,9 @@ impl<'a> Interleaved<'a> {
             at_add: 0,
             swapped: false,
         });
-        self.session.begin(thread, operation, line("working", &self.queues, &self.places));
+        if !self.parted {
+            self.session.begin(thread, operation, line("working", &self.queues, &self.places));
+        }
     }
 
     /// Gives the crate's answer, if this was the last step.
@@ -97,10 +95,9 @@ impl<'a> Interleaved<'a> {
         }
         let answer = match report.answer {
             None => "working".to_string(),
-            Some(answer) => self.told(source, &running, answer),
+            Some(answer) => told(answer, self.difference(source, &running, answer)),
         };
         running.steps.push(self.session.step(thread, line(&answer, &self.queues, &self.places)));
-        self.steps += 1;
         match report.claimed {
             // The capacity was decided two steps earlier, at the load of front before the resize.
             Some(claimed) if claimed.capacity > LARGEST => {
@@ -112,10 +109,7 @@ impl<'a> Interleaved<'a> {
         }
         match report.answer {
             None => self.running[thread] = Some(running),
-            Some(answer) => {
-                self.operations += 1;
-                self.count_end(thread, source, &running, answer);
-            }
+            Some(answer) => self.count_end(thread, source, &running, answer),
         }
         report.answer
     }
@@ -142,40 +136,33 @@ impl<'a> Interleaved<'a> {
         self.session
     }
 
-    /// The answer as `play` prints it. A length's two numbers are the paper's: back at the first load, front at the second.
-    fn told(&mut self, source: usize, running: &Running, answer: Answer) -> String {
-        match answer {
-            Answer::Done => "done".to_string(),
-            Answer::Job(job) => format!("job {}", job),
-            Answer::Nothing => "nothing".to_string(),
-            Answer::Empty => "empty".to_string(),
-            Answer::Retry => "retry".to_string(),
-            Answer::Moved => "moved".to_string(),
-            Answer::Took(job) => format!("took {}", job),
-            Answer::Length(length) => {
-                let first = running.first.expect("a length's first step");
-                let now = self.queues[source].0;
-                let difference = first.back.wrapping_sub(now.front);
-                let ours = difference.max(0) as usize;
-                if running.operation == Operation::Length {
-                    assert_eq!(length, ours, "the owner's length");
-                    self.events.count("length of the own queue");
-                } else {
-                    assert_eq!(length, now.back.wrapping_sub(first.front).max(0) as usize, "a thief's length");
-                    self.events.count("length of another queue");
-                    if length != ours {
-                        self.events.count("length that the crate's other order of loads changes");
-                    }
-                }
-                if difference < 0 {
-                    self.events.count("length below 0");
-                }
-                if difference > now.capacity as i64 {
-                    self.events.count("length above the capacity");
-                }
-                format!("length {} {}", difference, ours)
+    /// A length's signed difference by the paper's loads: back at the first step, front at the second.
+    fn difference(&mut self, source: usize, running: &Running, answer: Answer) -> i64 {
+        let length = match answer {
+            Answer::Length(length) => length,
+            _ => return 0,
+        };
+        let first = running.first.expect("a length's first step");
+        let now = self.queues[source].0;
+        let difference = first.back.wrapping_sub(now.front);
+        let ours = difference.max(0) as usize;
+        if running.operation == Operation::Length {
+            assert_eq!(length, ours, "the owner's length");
+            self.events.count("length of the own queue");
+        } else {
+            assert_eq!(length, now.back.wrapping_sub(first.front).max(0) as usize, "a thief's length");
+            self.events.count("length of another queue");
+            if length != ours {
+                self.events.count("length that the crate's other order of loads changes");
             }
         }
+        if difference < 0 {
+            self.events.count("length below 0");
+        }
+        if difference > now.capacity as i64 {
+            self.events.count("length above the capacity");
+        }
+        difference
     }
 
     /// Keeps the rings that the thread holds, and counts what is rare about a step.
@@ -241,8 +228,12 @@ impl<'a> Interleaved<'a> {
         let now = self.queues[thread].0;
         if !running.operation.steals(thread) {
             match answer {
-                Answer::Nothing | Answer::Empty if running.steps.len() == 4 && own == "FIFO" => events.count("FIFO pop puts its front back"),
-                Answer::Nothing | Answer::Empty if running.steps.len() == 5 && own == "LIFO" => events.count("LIFO pop puts its back back"),
+                Answer::Nothing | Answer::Empty if running.steps.len() == 4 && own == "FIFO" => {
+                    events.count("FIFO pop puts its front back")
+                }
+                Answer::Nothing | Answer::Empty if running.steps.len() == 5 && own == "LIFO" => {
+                    events.count("LIFO pop puts its back back")
+                }
                 Answer::Job(_) | Answer::Took(_) if running.taken == 1 => events.count("LIFO pop wins its last job"),
                 Answer::Job(_) | Answer::Took(_) if own == "FIFO" && !running.swapped => {
                     if now.capacity > 64 && running.at_add <= now.capacity as i64 / 4 {

@@ -32,9 +32,9 @@ fn whole_operations(first: u64, wanted: u64) {
     let mut judge = Judge::new();
     let (mut seed, mut operations) = (first, 0);
     while operations < wanted {
-        let (session, more) = whole::session(seed, 4000);
+        let session = whole::session(seed, 4000);
+        operations += session.operations();
         judge.submit(session);
-        operations += more;
         seed += 1;
     }
     judge.finish();
@@ -46,7 +46,10 @@ fn exhaustive(longest: u32) {
     for length in 1..=longest {
         for start in [(0, 0), (2, 1), (5, 3)] {
             let (sequences, operations) = whole::exhaustive(&mut judge, length, start);
-            println!("all {} sequences of {} operations from {:?} jobs, {} operations in all", sequences, length, start, operations);
+            println!(
+                "all {} sequences of {} operations from {:?} jobs, {} operations in all",
+                sequences, length, start, operations
+            );
         }
     }
     judge.finish();
@@ -58,10 +61,10 @@ fn interleavings(first: u64, wanted: u64) {
     let mut events = Events::default();
     let (mut seed, mut steps, mut operations) = (first, 0, 0);
     while steps < wanted {
-        let (session, more_steps, more_operations) = moods::session(seed, 10_000, &mut events);
+        let session = moods::session(seed, 10_000, &mut events);
+        steps += session.steps();
+        operations += session.operations();
         judge.submit(session);
-        steps += more_steps;
-        operations += more_operations;
         seed += 1;
     }
     judge.finish();
@@ -77,7 +80,8 @@ fn interleavings(first: u64, wanted: u64) {
 /// Plays the tour, and keeps it as FILE.session with the answers as FILE.expected.
 fn tour(file: &str) {
     let mut events = Events::default();
-    let (session, steps, operations) = tour::session(&mut events);
+    let session = tour::session(&mut events);
+    let (steps, operations) = (session.steps(), session.operations());
     std::fs::write(format!("{}.session", file), session.text()).unwrap();
     std::fs::write(format!("{}.expected", file), session.expected()).unwrap();
     let mut judge = Judge::new();

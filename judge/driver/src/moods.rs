@@ -3,7 +3,7 @@
 use crate::events::Events;
 use crate::interleaved::{Interleaved, LARGEST};
 use crate::random::Random;
-use crate::session::Session;
+use crate::session::{Queues, Session};
 use asked::Operation;
 
 /// The lengths at which something changes.
@@ -52,19 +52,30 @@ impl Mood {
 
     fn turn(&self, random: &mut Random) -> usize {
         let mut left = random.below(self.paces.iter().sum());
-        self.paces.iter().position(|&pace| {
-            let here = left < pace;
-            left = left.saturating_sub(pace);
-            here
-        }).expect("a thread that is awake")
+        self.paces
+            .iter()
+            .position(|&pace| {
+                let here = left < pace;
+                left = left.saturating_sub(pace);
+                here
+            })
+            .expect("a thread that is awake")
     }
 }
 
-/// A random operation for an idle thread whose queue has this length.
-pub fn choose(random: &mut Random, thread: usize, queues: usize, length: usize, level: usize, thieving: usize, job: u64) -> Operation {
+/// A random operation for an idle thread that makes for this length.
+pub fn choose(
+    random: &mut Random,
+    thread: usize,
+    queues: &Queues,
+    level: usize,
+    thieving: usize,
+    job: u64,
+) -> Operation {
+    let (count, length) = (queues.len(), queues[thread].0.length());
     if random.below(100) < thieving {
-        let own = queues == 1 || random.one_in(25);
-        let source = if own { thread } else { (thread + 1 + random.below(queues - 1)) % queues };
+        let own = count == 1 || random.one_in(25);
+        let source = if own { thread } else { (thread + 1 + random.below(count - 1)) % count };
         let limit = random.of(&LIMITS);
         // A batch from a queue of at most 256 jobs takes at most 128.
         let fits = length + limit.min(LARGEST / 2) <= LARGEST;
@@ -85,8 +96,8 @@ pub fn choose(random: &mut Random, thread: usize, queues: usize, length: usize, 
     }
 }
 
-/// A session of about so many calls, with the steps and operations in it.
-pub fn session(seed: u64, calls: usize, events: &mut Events) -> (Session, u64, u64) {
+/// A session of about so many calls.
+pub fn session(seed: u64, calls: usize, events: &mut Events) -> Session {
     let mut random = Random::new(seed);
     let lifo: Vec<bool> = (0..2 + random.below(3)).map(|_| random.one_in(2)).collect();
     let mut game = Interleaved::new(format!("interleaved {}", seed), &lifo, events);
@@ -99,20 +110,17 @@ pub fn session(seed: u64, calls: usize, events: &mut Events) -> (Session, u64, u
         }
         let thread = mood.turn(&mut random);
         for _ in 0..1 + random.below(mood.burst) {
-            if game.parted {
-                break;
-            }
             if game.is_idle(thread) {
                 job += 1;
-                let length = game.queues[thread].0.length();
-                game.begin(thread, choose(&mut random, thread, lifo.len(), length, mood.levels[thread], mood.thieving, job));
+                let level = mood.levels[thread];
+                let operation = choose(&mut random, thread, &game.queues, level, mood.thieving, job);
+                game.begin(thread, operation);
             } else {
                 game.step(thread);
             }
         }
     }
-    let (steps, operations) = (game.steps, game.operations);
-    (game.end(), steps, operations)
+    game.end()
 }
 
 /// Brings a queue to where something is about to happen. Whoever is in the middle of an operation sleeps through it.

@@ -1,6 +1,6 @@
 //! A session of the program `play` with the lines that it must print, and the comparison.
 use crate::places::{Places, PLACES};
-use asked::{Operation, Shown};
+use asked::{Answer, Operation, Shown};
 use std::fs::{self, File};
 use std::path::PathBuf;
 use std::process::{Child, Command, Stdio};
@@ -11,7 +11,8 @@ pub type Queues = Vec<(Shown, usize)>;
 pub struct Session {
     name: String,
     setup: String,
-    calls: Vec<String>,
+    /// Thread, kind, source, operand.
+    calls: Vec<[u64; 4]>,
     /// A line for each call. One with no tab is compared by its answer alone.
     expected: Vec<String>,
 }
@@ -33,19 +34,28 @@ impl Session {
             Operation::Batch(source, limit) => (6, source, limit as u64),
             Operation::BatchAndPop(source, limit) => (7, source, limit as u64),
         };
-        self.calls.push(format!("{} {} {} {}\n", thread, kind, source, operand));
+        self.calls.push([thread as u64, kind, source as u64, operand]);
         self.expected.push(line);
     }
 
     /// Gives the number of the call.
     pub fn step(&mut self, thread: usize, line: String) -> usize {
-        self.calls.push(format!("{} 0 0 0\n", thread));
+        self.calls.push([thread as u64, 0, 0, 0]);
         self.expected.push(line);
         self.calls.len() - 1
     }
 
     pub fn calls(&self) -> usize {
         self.calls.len()
+    }
+
+    pub fn steps(&self) -> u64 {
+        self.calls.iter().filter(|call| call[1] == 0).count() as u64
+    }
+
+    /// How many operations were begun.
+    pub fn operations(&self) -> u64 {
+        self.calls() as u64 - self.steps()
     }
 
     /// Ends the session at a call, which answers this and leaves the queues as the line has them.
@@ -57,11 +67,29 @@ impl Session {
     }
 
     pub fn text(&self) -> String {
-        self.setup.clone() + &self.calls.concat()
+        self.calls.iter().fold(self.setup.clone(), |text, call| text + &words(call) + "\n")
     }
 
     pub fn expected(&self) -> String {
         self.expected.iter().map(|line| line.clone() + "\n").collect()
+    }
+}
+
+fn words(call: &[u64; 4]) -> String {
+    format!("{} {} {} {}", call[0], call[1], call[2], call[3])
+}
+
+/// An answer as `play` prints it. A length's signed difference is not the crate's to say.
+pub fn told(answer: Answer, difference: i64) -> String {
+    match answer {
+        Answer::Done => "done".to_string(),
+        Answer::Job(job) => format!("job {}", job),
+        Answer::Nothing => "nothing".to_string(),
+        Answer::Empty => "empty".to_string(),
+        Answer::Retry => "retry".to_string(),
+        Answer::Moved => "moved".to_string(),
+        Answer::Took(job) => format!("took {}", job),
+        Answer::Length(_) => format!("length {} {}", difference, difference.max(0)),
     }
 }
 
@@ -85,7 +113,8 @@ pub struct Judge {
 impl Judge {
     /// The program is named by the variable PLAY; files go to the folder named by JUDGE_FILES.
     pub fn new() -> Judge {
-        let named = |variable| PathBuf::from(std::env::var_os(variable).unwrap_or_else(|| panic!("{} is not set", variable)));
+        let named =
+            |variable| PathBuf::from(std::env::var_os(variable).unwrap_or_else(|| panic!("{} is not set", variable)));
         Judge { play: named("PLAY"), folder: named("JUDGE_FILES"), playing: None }
     }
 
@@ -125,11 +154,16 @@ impl Judge {
                 self.fail(session, call, printed);
             }
         }
-        assert!(status.success() && lines.next().is_none(), "{}: play ended with {} or printed too much", session.name, status);
+        assert!(
+            status.success() && lines.next().is_none(),
+            "{}: play ended with {} or printed too much",
+            session.name,
+            status
+        );
     }
 
     fn fail(&self, mut session: Session, call: usize, printed: &str) -> ! {
-        println!("DIFFERENCE in {}, call {}: {}", session.name, call + 1, session.calls[call].trim_end());
+        println!("DIFFERENCE in {}, call {}: {}", session.name, call + 1, words(&session.calls[call]));
         println!("  the crate: {}", session.expected[call].replace('\t', " | "));
         println!("  play:      {}", printed.replace('\t', " | "));
         session.calls.truncate(call + 1);

@@ -17,7 +17,7 @@ struct Tour<'a> {
     job: u64,
 }
 
-pub fn session(events: &mut Events) -> (Session, u64, u64) {
+pub fn session(events: &mut Events) -> Session {
     let mut tour = Tour { game: Interleaved::new("tour".to_string(), &LIFO, events), job: 0 };
     tour.alone();
     tour.pops_and_thieves();
@@ -31,8 +31,7 @@ pub fn session(events: &mut Events) -> (Session, u64, u64) {
     tour.first_difference();
     tour.unwritten_cells();
     tour.last_push();
-    let (steps, operations) = (tour.game.steps, tour.game.operations);
-    (tour.game.end(), steps, operations)
+    tour.game.end()
 }
 
 impl Tour<'_> {

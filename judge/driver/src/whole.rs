@@ -5,7 +5,7 @@ use crate::moods::{choose, LEVELS, LIMITS};
 use crate::places::Places;
 use crate::players::{new_queues, shown_with_ring};
 use crate::random::Random;
-use crate::session::{line, Judge, Queues, Session};
+use crate::session::{line, told, Judge, Queues, Session};
 use asked::{Answer, Operation};
 use baton::unscripted;
 
@@ -17,7 +17,6 @@ struct Whole {
     queues: Queues,
     places: Places,
     session: Session,
-    operations: u64,
     job: u64,
 }
 
@@ -29,7 +28,7 @@ impl Whole {
         let queues = stealers.iter().map(shown_with_ring).collect();
         let places = Places::new(lifo.len());
         let session = Session::new(name, lifo);
-        Whole { crate_workers, crate_queues, workers, stealers, queues, places, session, operations: 0, job: 0 }
+        Whole { crate_workers, crate_queues, workers, stealers, queues, places, session, job: 0 }
     }
 
     fn length(&self, queue: usize) -> usize {
@@ -41,13 +40,15 @@ impl Whole {
         let (before, wanted) = match operation {
             Operation::Push(_) => (0, 1),
             Operation::Batch(source, limit) if source != thread => (2, ((self.length(source) + 1) / 2).min(limit)),
-            Operation::BatchAndPop(source, limit) if source != thread => (2, ((self.length(source).max(1) - 1) / 2).min(limit - 1)),
+            Operation::BatchAndPop(source, limit) if source != thread => {
+                (2, ((self.length(source).max(1) - 1) / 2).min(limit - 1))
+            }
             _ => return None,
         };
         (self.length(thread) + wanted > LARGEST).then(|| before + 2)
     }
 
-    fn play(&mut self, thread: usize, operation: Operation) -> Answer {
+    fn play(&mut self, thread: usize, operation: Operation) {
         if let Some(steps) = self.shortage(thread, operation) {
             return self.give_up(thread, operation, steps);
         }
@@ -59,30 +60,27 @@ impl Whole {
         assert_eq!(answer, copy, "the crate and its copy");
         for (queue, (shown, _)) in self.crate_queues.iter().zip(&queues) {
             let same = original::shown(queue);
-            assert_eq!((same.front, same.back, same.capacity), (shown.front, shown.back, shown.capacity), "the crate and its copy");
+            assert_eq!(
+                (same.front, same.back, same.capacity),
+                (shown.front, shown.back, shown.capacity),
+                "the crate and its copy"
+            );
         }
         if queues[thread].1 != self.queues[thread].1 {
             self.places.claim(self.queues.iter().map(|(_, ring)| *ring));
         }
         self.queues = queues;
         self.working(thread, operation, steps);
-        let told = match answer {
-            Answer::Done => "done".to_string(),
-            Answer::Job(job) => format!("job {}", job),
-            Answer::Nothing => "nothing".to_string(),
-            Answer::Empty => "empty".to_string(),
-            Answer::Retry => panic!("nobody is in the way"),
-            Answer::Moved => "moved".to_string(),
-            Answer::Took(job) => format!("took {}", job),
-            Answer::Length(length) => format!("length {} {}", length, length),
+        let difference = match answer {
+            Answer::Length(length) => length as i64,
+            _ => 0,
         };
+        let told = told(answer, difference);
         self.session.step(thread, line(&told, &self.queues, &self.places));
-        answer
     }
 
     /// The begin, and all steps but the last.
     fn working(&mut self, thread: usize, operation: Operation, steps: usize) {
-        self.operations += 1;
         self.session.begin(thread, operation, "working".to_string());
         for _ in 1..steps {
             self.session.step(thread, "working".to_string());
@@ -90,10 +88,9 @@ impl Whole {
     }
 
     /// The machine alone: it answers 8 and leaves the queues as they are.
-    fn give_up(&mut self, thread: usize, operation: Operation, steps: usize) -> Answer {
+    fn give_up(&mut self, thread: usize, operation: Operation, steps: usize) {
         self.working(thread, operation, steps);
         self.session.step(thread, line("gave-up 8", &self.queues, &self.places));
-        Answer::Nothing
     }
 
     /// The owner pushes or pops until its queue has this length.
@@ -112,12 +109,12 @@ impl Whole {
 }
 
 /// A random session of about so many operations, in stretches near a boundary; at the end all contents are popped.
-pub fn session(seed: u64, operations: u64) -> (Session, u64) {
+pub fn session(seed: u64, operations: u64) -> Session {
     let mut random = Random::new(seed);
     let lifo: Vec<bool> = (0..1 + random.below(4)).map(|_| random.one_in(2)).collect();
     let mut game = Whole::new(format!("whole {}", seed), &lifo);
     game.job = random.next();
-    while game.operations < operations {
+    while game.session.operations() < operations {
         let levels: Vec<usize> = lifo.iter().map(|_| random.of(&LEVELS)).collect();
         for (owner, level) in levels.iter().enumerate() {
             if random.one_in(2) {
@@ -128,14 +125,14 @@ pub fn session(seed: u64, operations: u64) -> (Session, u64) {
         for _ in 0..random.below(60) {
             let thread = random.below(lifo.len());
             let job = game.next_job();
-            let operation = choose(&mut random, thread, lifo.len(), game.length(thread), levels[thread], thieving, job);
+            let operation = choose(&mut random, thread, &game.queues, levels[thread], thieving, job);
             game.play(thread, operation);
         }
     }
     for owner in 0..lifo.len() {
         game.reach(owner, 0);
     }
-    (game.session, game.operations)
+    game.session
 }
 
 /// What two threads can do, each to its own queue and to the other's.
@@ -185,7 +182,7 @@ pub fn exhaustive(judge: &mut Judge, length: u32, start: (usize, usize)) -> (u64
                 sequences += 1;
             }
             next += 2000;
-            operations += game.operations;
+            operations += game.session.operations();
             judge.submit(game.session);
         }
     }
