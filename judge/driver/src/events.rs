@@ -1,4 +1,5 @@
-//! The rare events that a comparison must have met, counted by name.
+//! What a comparison must have met, counted by name: the rare events of interleavings, the boundaries of whole operations.
+use crate::moods::{LEVELS, LIMITS};
 use std::collections::BTreeMap;
 
 pub const KINDS: [&str; 2] = ["batch", "batch and pop"];
@@ -25,13 +26,46 @@ impl Events {
         }
     }
 
-    /// Those that never happened.
-    pub fn missing(&self) -> Vec<String> {
-        required().into_iter().filter(|name| !self.0.contains_key(name)).collect()
+    /// Fails where one of these never happened.
+    pub fn demand(&self, names: Vec<String>) {
+        let missing: Vec<String> = names.into_iter().filter(|name| !self.0.contains_key(name)).collect();
+        if !missing.is_empty() {
+            println!("NEVER HAPPENED: {}", missing.join("; "));
+            std::process::exit(1);
+        }
     }
 }
 
-fn required() -> Vec<String> {
+/// An operation on a queue of this flavour and length.
+pub fn boundary(operation: &str, lifo: bool, length: usize) -> String {
+    format!("{} where a {} queue has {}", operation, flavour(lifo), length)
+}
+
+/// A batch of this kind, limit and pair of flavours.
+pub fn limited(kind: &str, from: bool, into: bool, limit: usize) -> String {
+    format!("{} from {} into {}, limit {}", kind, flavour(from), flavour(into), limit)
+}
+
+/// What whole operations must have met: every operation at every boundary, every limit of every batch.
+pub fn boundaries() -> Vec<String> {
+    let mut names = Vec::new();
+    for lifo in [false, true] {
+        for length in LEVELS {
+            for operation in ["push", "pop", "length", "steal", "batch", "batch and pop"] {
+                names.push(boundary(operation, lifo, length));
+            }
+        }
+        for into in [false, true] {
+            for kind in KINDS {
+                names.extend(LIMITS.map(|limit| limited(kind, lifo, into, limit)));
+            }
+        }
+    }
+    names
+}
+
+/// What interleavings must have met.
+pub fn rare() -> Vec<String> {
     let mut names: Vec<String> = [
         "growth by push",
         "growth by batch",

@@ -1,5 +1,6 @@
 //! Whole operations: the same ones on the crate itself and on `play`. The scripted copy, running free, tells how many steps
 //! each takes, and is held to the crate's answers too.
+use crate::events::{boundary, limited, Events};
 use crate::interleaved::LARGEST;
 use crate::moods::{choose, LEVELS, LIMITS};
 use crate::places::Places;
@@ -9,26 +10,36 @@ use crate::session::{line, told, Judge, Queues, Session};
 use asked::{Answer, Operation};
 use baton::unscripted;
 
-struct Whole {
+struct Whole<'a> {
     crate_workers: Vec<original::Worker<u64>>,
     crate_queues: Vec<original::Stealer<u64>>,
     workers: Vec<scripted::Worker<u64>>,
     stealers: Vec<scripted::Stealer<u64>>,
+    lifo: Vec<bool>,
     queues: Queues,
     places: Places,
     session: Session,
+    events: &'a mut Events,
     job: u64,
 }
 
-impl Whole {
-    fn new(name: String, lifo: &[bool]) -> Whole {
+impl<'a> Whole<'a> {
+    fn new(name: String, lifo: &[bool], events: &'a mut Events) -> Whole<'a> {
         let crate_workers: Vec<_> = lifo.iter().map(|&lifo| original::new_worker(lifo)).collect();
         let crate_queues = crate_workers.iter().map(original::Worker::stealer).collect();
         let (workers, stealers) = new_queues(lifo);
-        let queues = stealers.iter().map(shown_with_ring).collect();
-        let places = Places::new(lifo.len());
-        let session = Session::new(name, lifo);
-        Whole { crate_workers, crate_queues, workers, stealers, queues, places, session, job: 0 }
+        Whole {
+            crate_workers,
+            crate_queues,
+            lifo: lifo.to_vec(),
+            queues: stealers.iter().map(shown_with_ring).collect(),
+            workers,
+            stealers,
+            places: Places::new(lifo.len()),
+            session: Session::new(name, lifo),
+            events,
+            job: 0,
+        }
     }
 
     fn length(&self, queue: usize) -> usize {
@@ -48,7 +59,18 @@ impl Whole {
         (self.length(thread) + wanted > LARGEST).then(|| before + 2)
     }
 
+    fn count(&mut self, thread: usize, operation: Operation) {
+        let queue = operation.source().unwrap_or(thread);
+        self.events.count(boundary(operation.name(), self.lifo[queue], self.length(queue)));
+        if let Operation::Batch(source, limit) | Operation::BatchAndPop(source, limit) = operation {
+            if source != thread {
+                self.events.count(limited(operation.name(), self.lifo[source], self.lifo[thread], limit));
+            }
+        }
+    }
+
     fn play(&mut self, thread: usize, operation: Operation) {
+        self.count(thread, operation);
         if let Some(steps) = self.shortage(thread, operation) {
             return self.give_up(thread, operation, steps);
         }
@@ -109,10 +131,10 @@ impl Whole {
 }
 
 /// A random session of about so many operations, in stretches near a boundary; at the end all contents are popped.
-pub fn session(seed: u64, operations: u64) -> Session {
+pub fn session(seed: u64, operations: u64, events: &mut Events) -> Session {
     let mut random = Random::new(seed);
     let lifo: Vec<bool> = (0..1 + random.below(4)).map(|_| random.one_in(2)).collect();
-    let mut game = Whole::new(format!("whole {}", seed), &lifo);
+    let mut game = Whole::new(format!("whole {}", seed), &lifo, events);
     game.job = random.next();
     while game.session.operations() < operations {
         let levels: Vec<usize> = lifo.iter().map(|_| random.of(&LEVELS)).collect();
@@ -166,7 +188,9 @@ pub fn exhaustive(judge: &mut Judge, length: u32, start: (usize, usize)) -> (u64
         let mut next = 0;
         let all = moves.len().pow(length);
         while next < all {
-            let mut game = Whole::new(format!("exhaustive {} from {:?}, flavours {:?}", length, start, lifo), &lifo);
+            let name = format!("exhaustive {} from {:?}, flavours {:?}", length, start, lifo);
+            let mut events = Events::default();
+            let mut game = Whole::new(name, &lifo, &mut events);
             for sequence in next..all.min(next + 2000) {
                 game.reach(0, start.0);
                 game.reach(1, start.1);
