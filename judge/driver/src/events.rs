@@ -95,6 +95,7 @@ pub fn rare() -> Vec<String> {
         for end in ["Empty", "Success", "Retry, ring changed", "Retry, exchange lost"] {
             names.push(format!("steal from {}: {}", from, end));
         }
+        names.push(format!("steal from the own {} queue: Success", from));
         for kind in KINDS {
             for end in ["Empty", "Success at its limit", "Retry, exchange lost"] {
                 names.push(format!("{} from {}: {}", kind, from, end));

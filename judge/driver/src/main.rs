@@ -9,6 +9,7 @@ mod script;
 mod session;
 mod tour;
 mod whole;
+mod witness;
 
 use events::{boundaries, rare, Events};
 use session::Judge;

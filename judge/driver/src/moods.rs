@@ -83,7 +83,6 @@ pub fn choose(
             0..=5 if fits => Operation::Batch(source, limit),
             6..=11 if fits => Operation::BatchAndPop(source, limit),
             12 => Operation::LengthOf(source),
-            _ if own => Operation::Length,
             _ => Operation::Steal(source),
         }
     } else {

@@ -63,6 +63,8 @@ impl Tour<'_> {
     fn alone(&mut self) {
         for own in [0, 3] {
             self.whole(own, Pop);
+            self.reach(own, 1);
+            self.whole(own, Steal(own));
             for source in [1, 2] {
                 self.whole(own, Steal(source));
                 for kind in KINDS {

@@ -167,6 +167,7 @@ fn moves() -> Vec<(usize, Operation)> {
             (thread, Operation::Pop),
             (thread, Operation::Length),
             (thread, Operation::LengthOf(other)),
+            (thread, Operation::Steal(thread)),
             (thread, Operation::Steal(other)),
             (thread, Operation::Batch(thread, 1)),
             (thread, Operation::BatchAndPop(thread, 1)),
