@@ -34,20 +34,20 @@ pub struct Interleaved<'a> {
     places: Places,
     pub session: Session,
     events: &'a mut Events,
-    /// The machine has answered 8: the two sides go on differently, and the session is over.
+    /// The machine lacks a ring that the crate has: the two sides go on differently, and the session is over.
     pub parted: bool,
 }
 
 impl<'a> Interleaved<'a> {
-    pub fn new(name: String, lifo: &[bool], events: &'a mut Events) -> Interleaved<'a> {
+    pub fn new(name: String, places: usize, lifo: &[bool], events: &'a mut Events) -> Interleaved<'a> {
         let players = Players::new(lifo);
         Interleaved {
             queues: players.shown(),
             players,
             lifo: lifo.to_vec(),
             running: lifo.iter().map(|_| None).collect(),
-            places: Places::new(lifo.len()),
-            session: Session::new(name, lifo),
+            places: Places::new(places, lifo.len()),
+            session: Session::new(name, places, lifo),
             events,
             parted: false,
         }
@@ -58,6 +58,7 @@ impl<'a> Interleaved<'a> {
     }
 
     pub fn begin(&mut self, thread: usize, operation: Operation) {
+        assert!(self.is_idle(thread), "a begin on a busy thread");
         self.players.begin(thread, operation);
         self.running[thread] = Some(Running {
             operation,
@@ -100,7 +101,11 @@ impl<'a> Interleaved<'a> {
             _ => {}
         }
         if let Some(claimed) = report.claimed {
-            self.places.claim(before.iter().map(|(_, ring)| *ring));
+            if !self.places.claim(before.iter().map(|(_, ring)| *ring)) {
+                self.parted = true;
+                self.running[thread] = Some(running);
+                return None;
+            }
             self.places.keep(thread, Some(claimed.ring));
         }
         let answer = match report.answer {

@@ -13,8 +13,11 @@ mod witness;
 
 use events::{boundaries, rare, Events};
 use session::Judge;
+use std::fs;
+use std::path::PathBuf;
 
-const USAGE: &str = "driver whole SEED OPERATIONS | exhaustive LENGTH | interleaved SEED STEPS | tour FILE | show FILE";
+const USAGE: &str =
+    "driver whole SEED OPERATIONS | exhaustive LENGTH | interleaved SEED STEPS | tour FILE | stored FOLDER | show FILE";
 
 fn main() {
     let words: Vec<String> = std::env::args().skip(1).collect();
@@ -24,6 +27,7 @@ fn main() {
         Some("exhaustive") => exhaustive(number(1) as u32),
         Some("interleaved") => interleavings(number(1), number(2)),
         Some("tour") => tour(words.get(1).expect(USAGE)),
+        Some("stored") => stored(words.get(1).expect(USAGE)),
         Some("show") => show(words.get(1).expect(USAGE)),
         _ => panic!("{}", USAGE),
     }
@@ -76,13 +80,14 @@ fn interleavings(first: u64, wanted: u64) {
     events.demand(rare());
 }
 
-/// Plays the tour, and keeps it as FILE.session with the answers as FILE.expected.
+/// Plays the tour, and keeps it as FILE.session with the crate's answers as FILE.lines.
 fn tour(file: &str) {
     let mut events = Events::default();
     let session = tour::session(&mut events);
     let (steps, operations) = (session.steps(), session.operations());
-    std::fs::write(format!("{}.session", file), session.text()).unwrap();
-    std::fs::write(format!("{}.expected", file), session.expected()).unwrap();
+    let title = "# 01's games and every rare event once, with the crate's answers: made by judge/run tour.\n";
+    fs::write(format!("{}.session", file), title.to_string() + &session.text()).unwrap();
+    fs::write(format!("{}.lines", file), session.lines()).unwrap();
     let mut judge = Judge::new();
     judge.submit(session);
     judge.finish();
@@ -91,11 +96,41 @@ fn tour(file: &str) {
     events.demand(rare().into_iter().filter(|name| name != "answer 8 of a batch").collect());
 }
 
+/// Holds the stored sessions, each FOLDER/NAME.session with its lines in NAME.lines, to the crate. Those with a refusal are
+/// not the crate's to judge, nor is what comes behind an 8, a 9 or a skipped shrink.
+fn stored(folder: &str) {
+    let files = fs::read_dir(folder).expect(folder).map(|file| file.unwrap().path());
+    let mut files: Vec<PathBuf> = files.filter(|file| file.extension().map_or(false, |end| end == "session")).collect();
+    files.sort();
+    let (mut judged, mut others) = (0, 0);
+    for file in files {
+        let text = fs::read_to_string(&file).unwrap();
+        let lines = fs::read_to_string(file.with_extension("lines")).unwrap();
+        let refused = lines.lines().any(|line| line.starts_with("refused") || line.starts_with("setup"));
+        if refused {
+            others += 1;
+            continue;
+        }
+        let calls = lines.lines().position(|line| line.starts_with("gave-up 8")).map_or(usize::MAX, |call| call + 1);
+        let session = script::play(&text, calls).0;
+        for (call, (line, expected)) in lines.lines().zip(session.lines().lines()).enumerate() {
+            if line != expected {
+                println!("DIFFERENCE in {}, line {}", file.display(), call + 1);
+                println!("  the crate: {}", expected.replace('\t', " | "));
+                println!("  stored:    {}", line.replace('\t', " | "));
+                std::process::exit(1);
+            }
+        }
+        judged += 1;
+    }
+    println!("{} stored sessions have the crate's answers; {} are not the crate's to judge", judged, others);
+}
+
 /// Plays a session file on both, and prints what each says. `play` may go on where the two have parted.
 fn show(file: &str) {
-    let text = std::fs::read_to_string(file).expect(file);
+    let text = fs::read_to_string(file).expect(file);
     let printed = Judge::new().printed(&text);
-    for ((call, answer), line) in script::play(&text).iter().zip(printed.lines()) {
+    for ((call, answer), line) in script::play(&text, usize::MAX).1.iter().zip(printed.lines()) {
         let answer = answer.map_or("working".to_string(), |answer| format!("{:?}", answer));
         println!("{:<24} crate: {:<12} play: {}", call, answer, line.replace('\t', " | "));
     }

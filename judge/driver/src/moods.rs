@@ -2,6 +2,7 @@
 //! operation while others go on, bursts of any length.
 use crate::events::Events;
 use crate::interleaved::{Interleaved, LARGEST};
+use crate::places::PLACES;
 use crate::random::Random;
 use crate::session::{Queues, Session};
 use asked::Operation;
@@ -99,7 +100,7 @@ pub fn choose(
 pub fn session(seed: u64, calls: usize, events: &mut Events) -> Session {
     let mut random = Random::new(seed);
     let lifo: Vec<bool> = (0..2 + random.below(3)).map(|_| random.one_in(2)).collect();
-    let mut game = Interleaved::new(format!("interleaved {}", seed), &lifo, events);
+    let mut game = Interleaved::new(format!("interleaved {}", seed), PLACES, &lifo, events);
     let mut job = 0;
     let mut mood = Mood::new(&mut random, lifo.len(), 0);
     while game.session.calls() < calls && !game.parted {

@@ -1,8 +1,10 @@
 //! The paper's rule for places, which the crate does not have: a claim takes the lowest place that is not in use.
 
+/// The place count of compared sessions: four threads keep at most eight places in use.
 pub const PLACES: usize = 16;
 
 pub struct Places {
+    count: usize,
     /// The place of each ring, by its number.
     of_ring: Vec<usize>,
     /// The ring that each thread builds or holds.
@@ -10,8 +12,8 @@ pub struct Places {
 }
 
 impl Places {
-    pub fn new(queues: usize) -> Places {
-        Places { of_ring: (0..queues).collect(), kept: vec![None; queues] }
+    pub fn new(count: usize, queues: usize) -> Places {
+        Places { count, of_ring: (0..queues).collect(), kept: vec![None; queues] }
     }
 
     pub fn of(&self, ring: usize) -> usize {
@@ -26,10 +28,11 @@ impl Places {
         self.kept[thread] = ring;
     }
 
-    /// The next ring is claimed, while these are the queues' rings.
-    pub fn claim(&mut self, current: impl Iterator<Item = usize>) {
+    /// The next ring is claimed, while these are the queues' rings. Gives whether there was a place for it.
+    pub fn claim(&mut self, current: impl Iterator<Item = usize>) -> bool {
         let used: Vec<usize> = current.chain(self.kept.iter().flatten().copied()).map(|ring| self.of(ring)).collect();
-        let free = (0..PLACES).find(|place| !used.contains(place));
-        self.of_ring.push(free.expect("four threads keep at most eight places in use"));
+        let free = (0..self.count).find(|place| !used.contains(place));
+        self.of_ring.extend(free);
+        free.is_some()
     }
 }

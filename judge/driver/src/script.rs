@@ -1,18 +1,28 @@
 //! A session file, as `play` reads it, played on the crate's scripted copy.
 use crate::events::Events;
 use crate::interleaved::Interleaved;
+use crate::session::Session;
 use asked::{Answer, Operation};
 
-/// Each call with what the crate answers to it. After an answer 8 of the machine the crate goes on in its own way.
-pub fn play(text: &str) -> Vec<(String, Option<Answer>)> {
+/// What is not comment.
+pub fn numbers(text: &str) -> Vec<u64> {
     let words = text.lines().flat_map(|line| line.split('#').next().unwrap().split_whitespace());
-    let numbers: Vec<u64> = words.map(|word| word.parse().expect("a number")).collect();
+    words.map(|word| word.parse().expect("a number")).collect()
+}
+
+/// The first so many calls, each with what the crate answers; and the session, which goes on until all queues are empty or
+/// the machine lacks a ring.
+pub fn play(text: &str, calls: usize) -> (Session, Vec<(String, Option<Answer>)>) {
+    let numbers = numbers(text);
     let queues = numbers[1] as usize;
     let lifo: Vec<bool> = numbers[2..2 + queues].iter().map(|&flavour| flavour == 1).collect();
     let mut events = Events::default();
-    let mut game = Interleaved::new("script".to_string(), &lifo, &mut events);
+    let mut game = Interleaved::new("script".to_string(), numbers[0] as usize, &lifo, &mut events);
     let mut answers = Vec::new();
-    for call in numbers[2 + queues..].chunks_exact(4) {
+    for call in numbers[2 + queues..].chunks_exact(4).take(calls) {
+        if game.parted {
+            break;
+        }
         let (thread, source, operand) = (call[0] as usize, call[2] as usize, call[3]);
         let operation = match call[1] {
             0 => None,
@@ -34,6 +44,5 @@ pub fn play(text: &str) -> Vec<(String, Option<Answer>)> {
         };
         answers.push((format!("{} {} {} {}", call[0], call[1], call[2], call[3]), answer));
     }
-    game.end();
-    answers
+    (game.end(), answers)
 }

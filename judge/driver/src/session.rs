@@ -1,5 +1,5 @@
 //! A session of the program `play` with the lines that it must print, and the comparison.
-use crate::places::{Places, PLACES};
+use crate::places::Places;
 use asked::{Answer, Operation, Shown};
 use std::fs::{self, File};
 use std::path::PathBuf;
@@ -18,9 +18,9 @@ pub struct Session {
 }
 
 impl Session {
-    pub fn new(name: String, lifo: &[bool]) -> Session {
+    pub fn new(name: String, places: usize, lifo: &[bool]) -> Session {
         let flavours: Vec<&str> = lifo.iter().map(|&lifo| if lifo { " 1" } else { " 0" }).collect();
-        let setup = format!("{} {}{}\n", PLACES, lifo.len(), flavours.concat());
+        let setup = format!("{} {}{}\n", places, lifo.len(), flavours.concat());
         Session { name, setup, calls: Vec::new(), expected: Vec::new() }
     }
 
@@ -70,7 +70,7 @@ impl Session {
         self.calls.iter().fold(self.setup.clone(), |text, call| text + &words(call) + "\n")
     }
 
-    pub fn expected(&self) -> String {
+    pub fn lines(&self) -> String {
         self.expected.iter().map(|line| line.clone() + "\n").collect()
     }
 }
@@ -169,7 +169,7 @@ impl Judge {
         session.calls.truncate(call + 1);
         session.expected.truncate(call + 1);
         fs::write(self.folder.join("failed.session"), session.text()).unwrap();
-        fs::write(self.folder.join("failed.expected"), session.expected()).unwrap();
+        fs::write(self.folder.join("failed.lines"), session.lines()).unwrap();
         println!("  the calls up to there are in {}", self.folder.join("failed.session").display());
         std::process::exit(1);
     }

@@ -1,6 +1,7 @@
 //! The tour: one session that leads through 01's games and every rare event, for the list of answers that is kept.
 use crate::events::Events;
 use crate::interleaved::Interleaved;
+use crate::places::PLACES;
 use crate::session::Session;
 use asked::Operation::{self, Batch, BatchAndPop, Length, LengthOf, Pop, Push, Steal};
 
@@ -18,7 +19,7 @@ struct Tour<'a> {
 }
 
 pub fn session(events: &mut Events) -> Session {
-    let mut tour = Tour { game: Interleaved::new("tour".to_string(), &LIFO, events), job: 0 };
+    let mut tour = Tour { game: Interleaved::new("tour".to_string(), PLACES, &LIFO, events), job: 0 };
     tour.alone();
     tour.pops_and_thieves();
     tour.lengths();

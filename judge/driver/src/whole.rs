@@ -3,7 +3,7 @@
 use crate::events::{boundary, limited, Events};
 use crate::interleaved::LARGEST;
 use crate::moods::{choose, LEVELS, LIMITS};
-use crate::places::Places;
+use crate::places::{Places, PLACES};
 use crate::players::{new_queues, shown_with_ring};
 use crate::random::Random;
 use crate::session::{line, told, Judge, Queues, Session};
@@ -35,8 +35,8 @@ impl<'a> Whole<'a> {
             queues: stealers.iter().map(shown_with_ring).collect(),
             workers,
             stealers,
-            places: Places::new(lifo.len()),
-            session: Session::new(name, lifo),
+            places: Places::new(PLACES, lifo.len()),
+            session: Session::new(name, PLACES, lifo),
             events,
             job: 0,
         }
