@@ -13,22 +13,38 @@ pub fn flavour(lifo: bool) -> &'static str {
 }
 
 #[derive(Default)]
-pub struct Events(BTreeMap<String, u64>);
+pub struct Events {
+    settled: BTreeMap<String, u64>,
+    /// The call that is being made, and what has happened in the session with the call at which it did.
+    call: usize,
+    fresh: Vec<(usize, String)>,
+}
 
 impl Events {
+    pub fn at(&mut self, call: usize) {
+        self.call = call;
+    }
+
     pub fn count(&mut self, name: impl Into<String>) {
-        *self.0.entry(name.into()).or_insert(0) += 1;
+        self.fresh.push((self.call, name.into()));
+    }
+
+    /// The session is over with so many calls: what happened behind them was not compared, and does not count.
+    pub fn settle(&mut self, calls: usize) {
+        for (_, name) in self.fresh.drain(..).filter(|(call, _)| *call < calls) {
+            *self.settled.entry(name).or_insert(0) += 1;
+        }
     }
 
     pub fn print(&self) {
-        for (name, count) in &self.0 {
+        for (name, count) in &self.settled {
             println!("{:>12}  {}", count, name);
         }
     }
 
     /// Fails where one of these never happened.
     pub fn demand(&self, names: Vec<String>) {
-        let missing: Vec<String> = names.into_iter().filter(|name| !self.0.contains_key(name)).collect();
+        let missing: Vec<String> = names.into_iter().filter(|name| !self.settled.contains_key(name)).collect();
         if !missing.is_empty() {
             println!("NEVER HAPPENED: {}", missing.join("; "));
             std::process::exit(1);

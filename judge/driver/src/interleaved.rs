@@ -5,10 +5,13 @@ use crate::players::Players;
 use crate::session::{line, told, Queues, Session};
 use crate::witness::Witness;
 use asked::{Answer, Operation, Shown};
-use baton::Access;
+use baton::{Access, Claimed};
 
 /// The largest ring of the machine. Where the crate goes beyond it, the machine answers 8.
 pub const LARGEST: usize = 256;
+
+/// In place of a call: the step was made when the session was over.
+const NOT_PLAYED: usize = usize::MAX;
 
 /// An operation in flight.
 pub struct Running {
@@ -80,6 +83,8 @@ impl<'a> Interleaved<'a> {
         let before = std::mem::replace(&mut self.queues, self.players.shown());
         let mut running = self.running[thread].take().expect("a busy thread");
         if self.parted {
+            running.steps.push(NOT_PLAYED);
+            self.part(&running, report.claimed);
             if report.answer.is_none() {
                 self.running[thread] = Some(running);
             }
@@ -88,6 +93,7 @@ impl<'a> Interleaved<'a> {
         let source = running.operation.source().unwrap_or(thread);
         running.first.get_or_insert(before[source].0);
         let access = report.access.expect("a step is an access");
+        self.events.at(self.session.calls());
         let witness = Witness { thread, source, lifo: &self.lifo, before: &before, now: &self.queues };
         witness.step(&running, access, &self.places, self.events);
         match access {
@@ -116,20 +122,29 @@ impl<'a> Interleaved<'a> {
             }
         };
         running.steps.push(self.session.step(thread, line(&answer, &self.queues, &self.places)));
-        match report.claimed {
-            // The capacity was decided two steps earlier, at the load of front before the resize.
-            Some(claimed) if claimed.capacity > LARGEST => {
-                self.events.count(format!("answer 8 of a {}", running.operation.name()));
-                self.session.cut(running.steps[running.steps.len() - 3], "gave-up 8");
-                self.parted = true;
-            }
-            _ => {}
-        }
         match report.answer {
-            None => self.running[thread] = Some(running),
+            None => {
+                self.part(&running, report.claimed);
+                self.running[thread] = Some(running);
+            }
             Some(answer) => witness.end(&running, answer, self.events),
         }
         report.answer
+    }
+
+    /// Where the crate takes a ring larger than the machine's largest, the machine has answered 8: two steps earlier, at the
+    /// load of front before the resize. The session is cut there.
+    fn part(&mut self, running: &Running, claimed: Option<Claimed>) {
+        if claimed.map_or(true, |claimed| claimed.capacity <= LARGEST) {
+            return;
+        }
+        self.parted = true;
+        let call = running.steps[running.steps.len() - 3];
+        if call < self.session.calls() {
+            self.session.cut(call, "gave-up 8");
+            self.events.at(call);
+            self.events.count(format!("answer 8 of a {}", running.operation.name()));
+        }
     }
 
     /// The thread runs alone to the end of its operation.
@@ -151,6 +166,7 @@ impl<'a> Interleaved<'a> {
             }
         }
         self.players.leave();
+        self.events.settle(self.session.calls());
         self.session
     }
 

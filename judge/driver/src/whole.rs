@@ -61,6 +61,7 @@ impl<'a> Whole<'a> {
 
     fn count(&mut self, thread: usize, operation: Operation) {
         let queue = operation.source().unwrap_or(thread);
+        self.events.at(self.session.calls());
         self.events.count(boundary(operation.name(), self.lifo[queue], self.length(queue)));
         if let Operation::Batch(source, limit) | Operation::BatchAndPop(source, limit) = operation {
             if source != thread {
@@ -154,6 +155,7 @@ pub fn session(seed: u64, operations: u64, events: &mut Events) -> Session {
     for owner in 0..lifo.len() {
         game.reach(owner, 0);
     }
+    game.events.settle(game.session.calls());
     game.session
 }
 
