@@ -85,7 +85,8 @@ fn tour(file: &str) {
     let mut events = Events::default();
     let session = tour::session(&mut events);
     let (steps, operations) = (session.steps(), session.operations());
-    let title = "# 01's games and every rare event once, with the crate's answers: made by judge/run tour.\n";
+    let title =
+        "# 01's games, but for the 9 of C11, and every rare event, with the crate's answers: made by judge/run tour.\n";
     fs::write(format!("{}.session", file), title.to_string() + &session.text()).unwrap();
     fs::write(format!("{}.lines", file), session.lines()).unwrap();
     let mut judge = Judge::new();

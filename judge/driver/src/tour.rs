@@ -28,6 +28,7 @@ pub fn session(events: &mut Events) -> Session {
         tour.changed_rings(source);
     }
     tour.stopped_batches();
+    tour.last_of_many();
     tour.growing_batches();
     tour.first_difference();
     tour.unwritten_cells();
@@ -180,6 +181,18 @@ impl Tour<'_> {
             self.game.complete(1);
             self.game.complete(source);
             self.reach(1, 0);
+        }
+    }
+
+    /// A thief leaves one job in a larger ring: a FIFO pop shrinks it, a LIFO pop does not (C12).
+    fn last_of_many(&mut self) {
+        for source in [0, 2] {
+            self.reach(source, 65);
+            while self.game.queues[source].0.length() > 1 {
+                self.whole(1, Batch(source, NO_LIMIT));
+                self.reach(1, 0);
+            }
+            self.whole(source, Pop);
         }
     }
 
