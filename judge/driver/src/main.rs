@@ -86,7 +86,7 @@ fn tour(file: &str) {
     let session = tour::session(&mut events);
     let (steps, operations) = (session.steps(), session.operations());
     let title =
-        "# 01's games, but for the 9 of C11, and every rare event, with the crate's answers: made by judge/run tour.\n";
+        "# 01's games, but for the 9 of C11, and every rare event, but for a batch's 8, with the crate's answers: made by judge/run tour.\n";
     fs::write(format!("{}.session", file), title.to_string() + &session.text()).unwrap();
     fs::write(format!("{}.lines", file), session.lines()).unwrap();
     let mut judge = Judge::new();
