@@ -91,6 +91,7 @@ pub fn rare() -> Vec<String> {
         "no FIFO shrink, since the difference first seen was larger",
         "swap while a thief holds the old ring",
         "read from a retired ring",
+        "batch and pop from LIFO: a job taken from a retired ring",
         "read of a cell never written",
         "difference -1 in a FIFO queue",
         "difference -1 in a LIFO queue",

@@ -27,6 +27,8 @@ pub struct Running {
     /// The difference at a FIFO pop's fetch-and-add.
     pub at_add: i64,
     pub swapped: bool,
+    /// The last cell read was in a retired ring.
+    pub read_retired: bool,
 }
 
 pub struct Interleaved<'a> {
@@ -71,6 +73,7 @@ impl<'a> Interleaved<'a> {
             taken: 0,
             at_add: 0,
             swapped: false,
+            read_retired: false,
         });
         if !self.parted {
             self.session.begin(thread, operation, line("working", &self.queues, &self.places));
@@ -99,6 +102,7 @@ impl<'a> Interleaved<'a> {
         match access {
             Access::Add => running.at_add = before[thread].0.difference(),
             Access::Exchange { won: true } => running.taken += 1,
+            Access::Read { ring, .. } => running.read_retired = before.iter().all(|(_, current)| *current != ring),
             Access::LoadRing if self.places.kept(thread).is_none() => self.places.keep(thread, Some(before[source].1)),
             Access::SwapRing => {
                 running.swapped = true;

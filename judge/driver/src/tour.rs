@@ -28,6 +28,7 @@ pub fn session(events: &mut Events) -> Session {
         tour.changed_rings(source);
     }
     tour.stopped_batches();
+    tour.held_place();
     tour.last_of_many();
     tour.growing_batches();
     tour.first_difference();
@@ -182,6 +183,20 @@ impl Tour<'_> {
             self.game.complete(source);
             self.reach(1, 0);
         }
+    }
+
+    /// A batch and pop holds a LIFO ring that its owner then retires, and takes its first job from it with no second look.
+    /// Meanwhile another queue claims a ring and fills it: were the held place free, the thief would take that queue's job.
+    fn held_place(&mut self) {
+        self.ready(2);
+        self.ready(0);
+        self.part(1, BatchAndPop(2, NO_LIMIT), 6);
+        self.change_ring(2);
+        self.change_ring(0);
+        let capacity = self.game.queues[0].0.capacity;
+        self.reach(0, capacity);
+        self.game.complete(1);
+        self.reach(1, 0);
     }
 
     /// A thief leaves one job in a larger ring: a FIFO pop shrinks it, a LIFO pop does not (C12).

@@ -33,6 +33,9 @@ impl Witness<'_> {
                     events.count(format!("{} from {}: stopped by back", name, from));
                 }
             }
+            Access::Exchange { won: true } if running.read_retired => {
+                events.count(format!("{} from {}: a job taken from a retired ring", name, from))
+            }
             Access::Exchange { won: false } => {
                 events.count(match (running.operation.steals(self.thread), running.taken) {
                     (false, _) => "LIFO pop loses its last job".to_string(),
