@@ -2,3 +2,4 @@ pub mod Play
 pub mod Table
 pub mod Sizes
 pub mod Race
+pub mod Refused

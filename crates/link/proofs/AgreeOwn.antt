@@ -17,6 +17,7 @@ use Rattle.ring.proofs.CapacityLaws.{holding-least, holding-over}
 use Rattle.core.specs.declared.out.Claim.{Claim as CodeClaim}
 use Rattle.op_resize.specs.Resize.{resizing, resizeOf}
 use Rattle.op_batch.specs.Haul as H
+use Rattle.advance.specs.Advance.{ofBatch}
 use Rattle.model.specs.Stage.{Flavour, fifo, lifo, Queue, cap, setCell, ResizeStage, own, Wanted, InHand, none, some, Haul, OwnStage, reserve-back}
 use Rattle.model.specs.Stage.{reserve-front, reserve-resize, own-back, all-write, one-write, swap-near, swap-far, swap-put, swap-last, own-store}
 use Rattle.model.specs.Stage.{noRing, Out, going, ended}
@@ -64,7 +65,7 @@ module _ (fl : Flavour) (R : ℕ → ℕ → Ring) (k t : ℕ) (new : Ring) (q :
 
     -- the own queue t is touched, and the haul is from k
     turn-own : (h : Haul) (i : ℕ) (r : Queue)
-        → H.turning (flavorOf fl) k (haulFor (R k) h) i (queueFor fl (R t) r) ≡ outFor fl R t new (turning fl k h i r)
+        → ofBatch k (H.turning (flavorOf fl) (haulFor (R k) h) i (queueFor fl (R t) r)) ≡ outFor fl R t new (turning fl k h i r)
     turn-own h i r = turn-agree R k new t fl fl h i r
 
     pub own-agree : (p : OwnStage) → Ok fl (own k p) q → OwnNames (R t) new gm gc p q → Same p (ownStep (offerFor gm (own k p) q) fl k p q)
