@@ -3,7 +3,7 @@ use mathlib.Core.Path.{_≡_, refl}
 use mathlib.Core.Bool.{true, false}
 use mathlib.Core.Logic.{⊎-elim}
 use mathlib.Core.List.{List}
-use Prim.Native.Nat.{ℕ, suc, _+_, _-_, _≤_, _<_}
+use Prim.Native.Nat.{ℕ, suc, _+_, _-_, _/_, _≤_, _<_}
 use native.Mathlib.Omega.{arith}
 use native.Mathlib.Numerals.{add-one}
 use lib.Dec.{leb}
@@ -17,16 +17,16 @@ use Rattle.ring.proofs.CapacityLaws.{holding-least, holding-over}
 use Rattle.core.specs.declared.out.Claim.{Claim as CodeClaim}
 use Rattle.op_resize.specs.Resize.{resizing, resizeOf}
 use Rattle.op_batch.specs.Haul as H
-use Rattle.model.specs.Stage.{Flavour, fifo, lifo, Queue, cap, setCell, ResizeStage, own, Wanted, InHand, none, some, Haul, OwnStage, reserve-back}
+use Rattle.model.specs.Stage.{Flavour, fifo, lifo, Queue, cap, ResizeStage, own, Wanted, InHand, none, some, Haul, OwnStage, reserve-back}
 use Rattle.model.specs.Stage.{reserve-front, reserve-resize, own-back, all-write, one-write, swap-near, swap-far, swap-put, swap-last, own-store}
 use Rattle.model.specs.Stage.{noRing, Out, going, ended}
-use Rattle.model.specs.Tables.{Claim, Resized, more, failed, finished, resizeStep, resized, slot, turning, ownStep}
+use Rattle.model.specs.Tables.{Claim, Resized, more, failed, finished, resizeStep, resized, slot, ownStep}
 use Rattle.model.specs.Machine.{stored}
 use Rattle.model.specs.Invariant.{HaulOk, Ok}
 use Rattle.model.specs.Memory.{noteResize}
-use Rattle.link.specs.Map.{ix, flavorOf, haulFor, resizeAt, queueFor, outFor, noted, offerFor}
+use Rattle.link.specs.Map.{ix, flavorOf, haulFor, resizeAt, queueFor, noted, offerFor}
 use Rattle.link.proofs.AgreeResize.{either, Fits, Agrees, resizedFor, ResizeNames, resize-agree}
-use Rattle.link.proofs.AgreeBatch.{copy-agree, swap-agree, turn-agree}
+use Rattle.link.proofs.AgreeBatch.{by-stop}
 
 abbrev pub OwnNames : (ℕ → Ring) → Ring → Claim → CodeClaim → OwnStage → Queue → Type 0
 OwnNames R new gm gc (reserve-back w) q = Unit
@@ -62,11 +62,6 @@ module _ (fl : Flavour) (R : ℕ → ℕ → Ring) (k t : ℕ) (new : Ring) (q :
     slot-ix fifo h i r l = own-ix h i r (omega arith)
     slot-ix lifo h i r l = own-ix h (h .n - suc i) r (omega arith)
 
-    -- the own queue t is touched, and the haul is from k
-    turn-own : (h : Haul) (i : ℕ) (r : Queue)
-        → H.turning (flavorOf fl) k (haulFor (R k) h) i (queueFor fl (R t) r) ≡ outFor fl R t new (turning fl k h i r)
-    turn-own h i r = turn-agree R k new t fl fl h i r
-
     pub own-agree : (p : OwnStage) → Ok fl (own k p) q → OwnNames (R t) new gm gc p q → Same p (ownStep (offerFor gm (own k p) q) fl k p q)
     unfolding ownStep
     own-agree (reserve-back a) o h = refl
@@ -90,16 +85,19 @@ module _ (fl : Flavour) (R : ℕ → ℕ → Ring) (k t : ℕ) (new : Ring) (q :
         (resize-agree fl (R t) new q cells w (a .n) gm gc z (o .stage) h) refl
     own-agree (own-back a) o h = refl
     own-agree (all-write j i v) o h =
-        rw (slot-ix fl j i (o .stage .0) (o .stage .1), add-one, copy-agree R k new j (suc i))
+        let y = slot-ix fl j i (o .stage .0) (o .stage .1) in either (leb (j .n) (suc i)) (λ t. rw (y, add-one, t)) (λ t. rw (y, add-one, t))
     own-agree (one-write j i v) o h =
         let l = o .stage .1 in
-        rw (own-ix j i (o .stage .0) (omega arith), add-one, turn-own j (suc i) (setCell q (j .b + i) v))
+        let y = own-ix j i (o .stage .0) (omega arith) in
+        either (leb (j .n) (suc i)) (λ t. by-stop fl j (j .n) (λ n a. rw (y, add-one, t, n, a)) (λ n a f. rw (y, add-one, t, n, a, f)) (λ n a f g. rw (y, add-one, t, n, a, f, g)) (λ n a f g. rw (y, add-one, t, n, a, f, g))) (λ t. rw (y, add-one, t))
     own-agree (swap-near j x) o h = let l = o .stage .1 in rw (own-ix j x (o .stage .0) (omega arith), w .reads (j .b + x))
     own-agree (swap-far j x near) o h =
         let l = o .stage .1 in rw (own-ix j (j .n - suc x) (o .stage .0) (omega arith), w .reads (j .b + (j .n - suc x)))
     own-agree (swap-put j x near far) o h = let l = o .stage .1 in rw (own-ix j x (o .stage .0) (omega arith))
     own-agree (swap-last j x near) o h =
-        let l = o .stage .1 in rw (own-ix j (j .n - suc x) (o .stage .0) (omega arith), add-one, swap-agree R k new j (suc x))
+        let l = o .stage .1 in
+        let y = own-ix j (j .n - suc x) (o .stage .0) (omega arith) in
+        either (leb (j .n / 2) (suc x)) (λ t. rw (y, add-one, t)) (λ t. rw (y, add-one, t))
     own-agree (own-store j) o h = stored (j .hand) refl (own-ix j (j .n) (o .stage) (omega arith))
       where
         stored : (a : InHand) → j .hand ≡ a → plusOf (ix (j .b)) (j .n) ≡ ix (j .b + j .n)

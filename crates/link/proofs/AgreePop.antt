@@ -84,7 +84,8 @@ module _ (fl : Flavour) (R : ℕ → ℕ → Ring) (k : ℕ) (new : Ring) (q : Q
         rw (w .reads f, ← ca, t, u, x)))
         (λ t. done a ca t)
       where
-        done : (a : Popper) → R k (q .ring) .capacity ≡ cap q → (ltb smallest (R k (q .ring) .capacity) && leb d (R k (q .ring) .capacity / 4)) ≡ false
+        done : (a : Popper) → R k (q .ring) .capacity ≡ cap q
+            → (ltb smallest (R k (q .ring) .capacity) && leb d (R k (q .ring) .capacity / 4)) ≡ false
             → Same (fifoPop a (fifo-read f d)) (fifoStep (offerFor gm (fifoPop a (fifo-read f d)) q) a (fifo-read f d) q)
         done byPop ca t = rw (w .reads f, ← ca, t)
         done byBatch ca t = rw (w .reads f, ← ca, t)

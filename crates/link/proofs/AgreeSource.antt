@@ -1,5 +1,5 @@
 -- The tables agree: the steps of a batch on its source.
-use mathlib.Core.Path.{_≡_, refl}
+use mathlib.Core.Path.{_≡_, refl, sym}
 use mathlib.Core.Bool.{true}
 use mathlib.Core.List.{List}
 use Prim.Native.Nat.{ℕ, suc, _+_, _-_, _^_, _≤_}
@@ -11,19 +11,19 @@ use Rattle.ring.specs.declared.Ring.{Ring}
 use Rattle.cells.specs.Cells.{readOf}
 use Rattle.core.specs.declared.out.Claim.{Claim as CodeClaim}
 use Rattle.op_batch.specs.Haul as H
-use Rattle.model.specs.Stage.{Flavour, fifo, lifo, Queue, cell, setFront, BatchKind, plain, andPop, InHand, none, some, Haul, source, SourceStage}
-use Rattle.model.specs.Stage.{source-front, source-back, source-ring, source-first, all-copy, all-reload, all-exchange, one-first, one-back, one-read}
-use Rattle.model.specs.Stage.{one-reload, one-exchange, Stage, Out, going}
-use Rattle.model.specs.Tables.{Claim, wanted, hauling, withJob, onward, inHand, holding, firstRead, sourceStep}
+use Rattle.model.specs.Stage.{Flavour, fifo, lifo, Queue, cell, BatchKind, plain, andPop, InHand, none, some, Haul, source, SourceStage, source-front}
+use Rattle.model.specs.Stage.{source-back, source-ring, source-first, all-copy, all-reload, all-exchange, one-first, one-back, one-read, one-reload}
+use Rattle.model.specs.Stage.{one-exchange, Stage, Out, going}
+use Rattle.model.specs.Tables.{Claim, wanted, hauling, onward, inHand, holding, firstRead, sourceStep}
 use Rattle.model.specs.Logical.{lo, hi}
 use Rattle.model.specs.Invariant.{view, Bulk, Single, SourceKnows}
 use Rattle.model.specs.Bound.{earlySource}
 use Rattle.model.specs.Memory.{SourceHolds}
 use Rattle.model.proofs.Stable.{fifo-hi, span-hi}
 use Rattle.link.specs.Map.{ix, kindOf}
-use Rattle.link.proofs.AgreeResize.{either, next-ix, Fits, Agrees}
+use Rattle.link.proofs.AgreeResize.{true-false, either, next-ix, Fits, Agrees}
 use Rattle.link.proofs.AgreeSteal.{HeldRing}
-use Rattle.link.proofs.AgreeBatch.{copy-agree, stop-agree, turn-agree, first-ix}
+use Rattle.link.proofs.AgreeBatch.{by-stop, first-ix}
 
 wanted-agree : (m : BatchKind) (d others : ℕ) → H.wantedOf (kindOf m) d others ≡ wanted m d others
 wanted-agree plain d others = refl
@@ -35,15 +35,14 @@ module _ (fo : Flavour) (R : ℕ → ℕ → Ring) (k : ℕ) (new : Ring) (q : Q
 
   ring-agree : (fl : Flavour) (m : BatchKind) (f n b : ℕ)
       → Same fl (source-ring (record { kind = m; f = f; n = n }) b) (holding m fl fo k (hauling (q .ring) (record { kind = m; f = f; n = n }) b) q)
-  ring-agree fifo plain f n b = rw (copy-agree R k new (hauling (q .ring) (record { kind = plain; f = f; n = n }) b) 0)
-  ring-agree lifo plain f n b =
-      either (leb n 0) (λ t. rw (t, stop-agree R k new k fo lifo (hauling (q .ring) (record { kind = plain; f = f; n = n }) b) 0 q)) (λ t. rw t)
+  ring-agree fifo plain f n b = either (leb n 0) (λ t. rw t) (λ t. rw t)
+  ring-agree lifo plain f n b = either (leb n 0) (λ t. rw t) (λ t. rw t)
   ring-agree fifo andPop f n b = refl
   ring-agree lifo andPop f n b = refl
 
   first-agree : (fl : Flavour) (h : Haul) → readOf cells (R k (h .ring)) (ix (h .f)) ≡ cell q (h .ring) (h .f)
       → Same fl (source-first h) (going q (firstRead fl k h (cell q (h .ring) (h .f))))
-  first-agree fifo h e = rw (e, copy-agree R k new (withJob h (cell q (h .ring) (h .f))) 0)
+  first-agree fifo h e = either (leb (h .n) 0) (λ t. rw (e, t)) (λ t. rw (e, t))
   first-agree lifo h e = rw e
 
   back-agree : (fl : Flavour) (m : BatchKind) (others f : ℕ) → q .back ≤ 2 ^ 62 → f ≤ 2 ^ 62
@@ -92,23 +91,29 @@ module _ (fo fl : Flavour) (R : ℕ → ℕ → Ring) (k : ℕ) (new : Ring) (q 
       either (eqb (q .front) (j .f)) (λ t. rw (n, t₁, t)) (λ t. rw (n, t₁, t))
   source-agree (one-first j v) s o e h =
       let b = one-small j (s .0) in
-      let n = next-ix (j .f) (omega arith) in
+      let x = next-ix (j .f) (omega arith) in
       let t₁ = same-is (q .front) (j .f) in
-      either (eqb (q .front) (j .f)) (λ t. rw (n, t₁, t, turn-agree R k new k fo fl (onward j (some v)) 0 (setFront q (suc (j .f))))) (λ t. rw (n, t₁, t))
+      either (eqb (q .front) (j .f))
+      (λ t. either (leb (j .n) 0)
+      (λ u. by-stop fo (onward j (some v)) (j .n) (λ n a. absurd (true-false (sym a))) (λ n a f. rw (x, t₁, t, u, f)) (λ n a f g. rw (x, t₁, t, u, f, g))
+      (λ n a f g. rw (x, t₁, t, u, f, g)))
+      (λ u. rw (x, t₁, t, u)))
+      (λ t. rw (x, t₁, t))
   source-agree (one-back j i) s o e h =
       let b = w .back in
-      let f = front-small (j .f) (s .1) o in
+      let y = front-small (j .f) (s .1) o in
       let t₁ = empty-is (q .back) (j .f) (omega arith) (omega arith) in
-      either (leb (q .back) (j .f)) (λ t. rw (t₁, t, stop-agree R k new k fo fl j i q)) (λ t. rw (t₁, t))
+      either (leb (q .back) (j .f)) (λ t. by-stop fo j i (λ n a. rw (t₁, t, n, a)) (λ n a f. rw (t₁, t, n, a, f)) (λ n a f g. rw (t₁, t, n, a, f, g)) (λ n a f g. rw (t₁, t, n, a, f, g))) (λ t. rw (t₁, t))
   source-agree (one-read j i) s o e h = rw (h (j .ring) refl .reads (j .f))
   source-agree (one-reload j i v) s o e h =
       let t₁ = h (j .ring) refl .tells in
-      either (eqb (j .ring) (q .ring)) (λ t. rw (t₁, t)) (λ t. rw (t₁, t, stop-agree R k new k fo fl j i q))
+      either (eqb (j .ring) (q .ring))
+      (λ t. rw (t₁, t)) (λ t. by-stop fo j i (λ n a. rw (t₁, t, n, a)) (λ n a f. rw (t₁, t, n, a, f)) (λ n a f g. rw (t₁, t, n, a, f, g)) (λ n a f g. rw (t₁, t, n, a, f, g)))
   source-agree (one-exchange j i v) s o e h =
       let b = one-small j (s .0) in
-      let n = next-ix (j .f) (omega arith) in
+      let x = next-ix (j .f) (omega arith) in
       let t₁ = same-is (q .front) (j .f) in
-      either (eqb (q .front) (j .f)) (λ t. taken (j .hand) refl n t₁ t) (λ t. rw (n, t₁, t, stop-agree R k new k fo fl j i q))
+      either (eqb (q .front) (j .f)) (λ t. taken (j .hand) refl x t₁ t) (λ t. by-stop fo j i (λ n a. rw (t₁, t, n, a)) (λ n a f. rw (t₁, t, n, a, f)) (λ n a f g. rw (t₁, t, n, a, f, g)) (λ n a f g. rw (t₁, t, n, a, f, g)))
     where
       taken : (a : InHand) → j .hand ≡ a → plusOf (ix (j .f)) 1 ≡ ix (suc (j .f)) → sameB (ix (q .front)) (ix (j .f)) ≡ eqb (q .front) (j .f)
           → eqb (q .front) (j .f) ≡ true
