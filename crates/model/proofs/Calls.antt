@@ -225,7 +225,8 @@ module _ (n : ℕ) (fl : ℕ → Flavour) where
       ok-like : (q : Queue) (i : ℕ) → i < n → Ok (fl i) (s .stages i) q → Ok (fl i) (s′ .stages i) q
       ok-like q = each (λ (i : ℕ). Ok (fl i) (s .stages i) q → Ok (fl i) (s′ .stages i) q) t
           (λ o. (let x = at-rest (s .stages t) q c in let y = at-rest (s′ .stages t) q c′ in
-          ok-as (fl t) (s .stages t) (s′ .stages t) q o (y .low ∙ sym (x .low)) (y .high ∙ sym (x .high)) (y .stage (fl t)))) (λ i h d o. rw (a i d) o)
+          ok-as (fl t) (s .stages t) (s′ .stages t) q o (y .low ∙ sym (x .low)) (y .high ∙ sym (x .high))
+          (y .stage (fl t)))) (λ i h d o. rw (a i d) o)
 
       view-like : (q : Queue) (i : ℕ) → i < n → view (s′ .stages i) q ≡ view (s .stages i) q
       view-like q = each (λ (i : ℕ). view (s′ .stages i) q ≡ view (s .stages i) q) t

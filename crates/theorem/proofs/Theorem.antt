@@ -1,5 +1,7 @@
 -- The two statements of demand 3, over the very definitions that the contracts of `Machine::setup`, `begin` and `step` cite: `setupOf`, `beginOf`
--- and `stepOf`, which `session` runs (specs/History). k queues, n places; the pool's cells are any.
+-- and `stepOf`. They rest on these and on specs/History alone: `session` (a setup, then `run` by `callOf`), `Lends`, `accepted` and `answered`
+-- (from the history), `standing` (from machine and pool), `AtRest`, `AllAllowed`; and on the machine's own `soundB`.
+-- k queues, n places; the pool's cells are any.
 use mathlib.Core.Path.{_≡_, refl, ap, subst}
 use mathlib.Core.Bool.{true}
 use mathlib.Core.List.{List}
@@ -32,17 +34,20 @@ module _ (k : ℕ) (flavors : List Flavor) (n : ℕ) (cells : List ℕ) (calls :
   abbrev fresh : Behind k fl (λ t. 0) 0 (freshMachine k flavors n) cells
   fresh = fresh-behind k flavors n cells (start .counts) (start .pool-length) (λ t. 0)
 
+  abbrev last : Session
+  last = run (freshMachine k flavors n) cells calls
+
   gone : Ran k fl n (λ t. 0) 0 (freshMachine k flavors n) cells fresh calls
   gone = run-goes k fl n (λ t. 0) 0 (freshMachine k flavors n) cells fresh calls (omega arith) refl lends
 
-  from-fresh : s ≡ run (freshMachine k flavors n) cells calls
+  from-fresh : s ≡ last
   from-fresh = ap (λ (a : After). run (a .called .machine) (a .cells) calls) (start .is)
 
   -- a state of the model stands behind the machine that the session reached: what proofs/Named says holds of it
   pub reached : (jobs : ℕ → ℕ) × Behind k fl jobs (length calls) (s .machine) (s .cells)
   reached =
       let e : 0 + length calls ≡ length calls = omega arith in
-      (gone .jobs-now, rw from-fresh (subst (λ (c : ℕ). Behind k fl (gone .jobs-now) c (run (freshMachine k flavors n) cells calls .machine) (run (freshMachine k flavors n) cells calls .cells)) e (gone .behind)))
+      (gone .jobs-now, rw from-fresh (subst (λ (c : ℕ). Behind k fl (gone .jobs-now) c (last .machine) (last .cells)) e (gone .behind)))
 
   -- no job lost, none doubled
   pub conserved : (j : ℕ) → (answered (s .history) j ≤ accepted (s .history) j)
@@ -56,8 +61,7 @@ module _ (k : ℕ) (flavors : List Flavor) (n : ℕ) (cells : List ℕ) (calls :
           arith,
           r .bal j,
           z,
-          standing-is k fl (r .jobs-now) (0 + length calls) (omega arith) (run (freshMachine k flavors n) cells calls .machine)
-              (run (freshMachine k flavors n) cells calls .cells) (r .behind) h j,
+          standing-is k fl (r .jobs-now) (0 + length calls) (omega arith) (last .machine) (last .cells) (r .behind) h j,
         ),
       )
 
@@ -66,7 +70,6 @@ module _ (k : ℕ) (flavors : List Flavor) (n : ℕ) (cells : List ℕ) (calls :
   reached-sound =
       let r = gone in
       rw from-fresh (
-        call-sound k fl (r .jobs-now) (0 + length calls) (omega arith) (run (freshMachine k flavors n) cells calls .machine)
-            (run (freshMachine k flavors n) cells calls .cells) (r .behind),
+        call-sound k fl (r .jobs-now) (0 + length calls) (omega arith) (last .machine) (last .cells) (r .behind),
         r .fine,
       )
