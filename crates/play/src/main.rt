@@ -32,7 +32,11 @@ fn on_page(at: usize, page: &[u8]) -> usize
 fn in_pool(cells: usize, pool: &[u64]) -> usize
     ensures { λ r. ⌜ Counts r (now (pool .entry)) ⌝ }
 {
-    if cells < pool.len() { cells } else { pool.len() }
+    if cells < pool.len() {
+        cells
+    } else {
+        pool.len()
+    }
 }
 
 fn write_page(page: &[u8], at: usize) -> bool {

@@ -154,7 +154,14 @@ fn set_up(session: Session, queues: usize, pool: &[u64], page: &mut [u8], at: us
 }
 
 // A call prints its line.
-fn call(machine: Machine, pool: &mut [u64], thread: usize, request: Request, page: &mut [u8], at: usize) -> Shown
+fn call(
+    machine: Machine,
+    pool: &mut [u64],
+    thread: usize,
+    request: Request,
+    page: &mut [u8],
+    at: usize,
+) -> Shown
     ensures { λ r. ⌜ scene r (now (pool .exit)) (now (page .exit)) ≡ calledOf (callOf machine (now (pool .entry)) thread request) (now (page .entry)) at ⌝ }
 {
     let called = play(machine, pool, thread, request);
@@ -169,7 +176,14 @@ fn call(machine: Machine, pool: &mut [u64], thread: usize, request: Request, pag
 }
 
 // What the program does at what was said. What is no session prints its line, and the program ends.
-pub fn tell(player: Player, said: Said, machine: Machine, pool: &mut [u64], page: &mut [u8], at: usize) -> Shown
+pub fn tell(
+    player: Player,
+    said: Said,
+    machine: Machine,
+    pool: &mut [u64],
+    page: &mut [u8],
+    at: usize,
+) -> Shown
     ensures { λ r. ⌜ scene r (now (pool .exit)) (now (page .exit)) ≡ tellOf player said machine (now (pool .entry)) (now (page .entry)) at ⌝ }
 {
     match said {

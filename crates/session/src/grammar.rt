@@ -22,11 +22,23 @@ pub enum Kind {
 pub enum Awaiting {
     Places,
     Queues,
-    Flavor { queues: u64, read: u64 },
+    Flavor {
+        queues: u64,
+        read: u64,
+    },
     Thread,
-    Kind { thread: u64 },
-    Source { thread: u64, kind: Kind },
-    Operand { thread: u64, kind: Kind, source: u64 },
+    Kind {
+        thread: u64,
+    },
+    Source {
+        thread: u64,
+        kind: Kind,
+    },
+    Operand {
+        thread: u64,
+        kind: Kind,
+        source: u64,
+    },
 }
 
 // places: the place count, once it is heard. flavors: 0 FIFO, 1 LIFO; those of queues past the last that there may be are not kept.
@@ -307,9 +319,7 @@ impl Session {
     {
         let awaiting = self.awaiting;
         match awaiting {
-            Awaiting::Places => self
-                .with_places(number)
-                .to(Awaiting::Queues, Said::Nothing),
+            Awaiting::Places => self.with_places(number).to(Awaiting::Queues, Said::Nothing),
             Awaiting::Queues => self.flavors_read(number, 0),
             Awaiting::Flavor { queues, read } => self.hear_flavor(queues, read, number),
             Awaiting::Thread => self.to(Awaiting::Kind { thread: number }, Said::Nothing),

@@ -31,7 +31,7 @@ listen-requires : tie.Need-listen-requires Inv-loop μ-loop
 listen-requires c κs = search needs
 
 add-from : tie.Need-add-from Inv-loop μ-loop
-add-from c = 
+add-from c =
     let l = c .before .before .before .before .before in
     let n = c .before .listen in
     let part = l .before .before .before .before .args .part .now in
@@ -56,7 +56,7 @@ turn-page-requires : tie.Need-turn-page-requires Inv-loop μ-loop
 turn-page-requires c κs = search needs
 
 loop-less : tie.Need-loop-less Inv-loop μ-loop
-loop-less c = 
+loop-less c =
     let l = c .before .before .before .before .before .before .before .before .before .before .before .before .before .before .before in
     let n = c .before .before .before .before .before .before .before .before .before .before .before .listen in
     let part = l .before .before .before .before .args .part .now in
@@ -69,7 +69,7 @@ loop-less c =
     omega arith
 
 loop-again : tie.Need-loop-again Inv-loop μ-loop
-loop-again c = 
+loop-again c =
     let l = c .before .before .before .before .before .before .before .before .before .before .before .before .before .before .before in
     let n = c .before .before .before .before .before .before .before .before .before .before .before .listen in
     let part = l .before .before .before .before .args .part .now in

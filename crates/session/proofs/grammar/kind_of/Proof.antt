@@ -38,7 +38,7 @@ returns-8 c = rw (c .if8 .taken)
 
 returns-9 : tie.Need-returns-9
 unfolding kindOf
-returns-9 c = 
+returns-9 c =
     let a = c .before .before .before in
     let b = a .before .before in
     rw

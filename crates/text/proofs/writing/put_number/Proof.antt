@@ -23,7 +23,7 @@ same-length : tie.Need-same-length
 same-length c = search needs
 
 returns : tie.Need-returns
-returns c = 
+returns c =
     let d = c .before .before .before .before .before .decimal in
     c .before .before .put-text .ensures ∙ ap (put _ _) (d .ensures .1 .1 ∙ decimal-is _ _ (d .ensures .1 .0) (omega arith))
 

@@ -21,7 +21,7 @@ same-length : tie.Need-same-length
 same-length c = search needs
 
 returns : tie.Need-returns
-returns c = 
+returns c =
     let s = c .before .before .before .before .before .before .before in
     let z = s .args .z in
     let f = s .fits .z .sfits in
@@ -36,7 +36,7 @@ mag-requires-2 : tie.Need-mag-requires-2
 mag-requires-2 c κs = search needs
 
 add-put-number : tie.Need-add-put-number
-add-put-number c = 
+add-put-number c =
     let s = c .before .before .before .before .before .before .before .before in
     let z = s .args .z in
     let m : c .mag2 .result ≡ mag z = c .mag2 .ensures ∙ ap mag (back z (s .fits .z .sfits)) in
@@ -50,7 +50,7 @@ same-length-2 : tie.Need-same-length-2
 same-length-2 c = search needs
 
 returns-2 : tie.Need-returns-2
-returns-2 c = 
+returns-2 c =
     let s = c .before .before .before .before .before .before .before .before .before .before .before in
     let z = s .args .z in
     let f = s .fits .z .sfits in
