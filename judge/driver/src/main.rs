@@ -107,8 +107,8 @@ fn stored(folder: &str) {
     for file in files {
         let text = fs::read_to_string(&file).unwrap();
         let lines = fs::read_to_string(file.with_extension("lines")).unwrap();
-        let refused = lines.lines().any(|line| line.starts_with("refused") || line.starts_with("setup"));
-        if refused {
+        let turned_away = |line: &str| ["refused", "setup", "bad input"].iter().any(|start| line.starts_with(start));
+        if lines.lines().any(turned_away) {
             others += 1;
             continue;
         }

@@ -1,0 +1,123 @@
+-- Wrong machines, each shut out by the promise of `step`: it would have to leave what `stepOf` gives, and at one state it does not. A state is
+-- reached by playing from setup.
+use mathlib.Core.Path.{_≡_, refl, sym, ap, _∙_}
+use mathlib.Core.List.{List, [], _∷_}
+use Prim.Native.Nat.{ℕ}
+use native.Mathlib.Omega.{arith}
+use lib.Count.{ones, onesIn}
+use lib.IntN.{pos}
+use Rattle.base.specs.Below.{allBelow, anyBelow, firstNot}
+use Rattle.index.specs.Index.{modZ, wrap, plusOf, differenceOf, lengthOf, behindB, emptyB, fullB, spansB, sameB, cellOf}
+use Rattle.ring.specs.Capacity.{allowedB}
+use Rattle.cells.specs.Cells.{standsB, spot, readOf, writtenOf}
+use Rattle.steal.specs.declared.Steal.the-variants as T
+use Rattle.core.specs.declared.queue.Flavor.the-variants.{Fifo}
+use Rattle.core.specs.declared.answer.Answer.the-variants as A
+use Rattle.core.specs.declared.answer.Refusal.the-variants.{NoSuch}
+use Rattle.core.specs.Answers.{told}
+use Rattle.machine.specs.declared.operation.Operation.the-variants.{Push, Length, Steal}
+use Rattle.machine.specs.declared.state.Machine.{Machine}
+use Rattle.machine.specs.State.{After, after, refused, queueAt}
+use Rattle.machine.specs.Sound.{soundB}
+use Rattle.machine.specs.Claim.{freeRing}
+use Rattle.machine.specs.Setup.{setupOf}
+use Rattle.machine.specs.Step.{gateOf, stepOf}
+use Rattle.machine.specs.Begin.{beginOf}
+use Rattle.games.specs.Play.{setup, begin, steps, alone, finish, answerOf}
+
+abbrev Steps : Type 0
+Steps = Machine → List ℕ → ℕ → After
+
+abbrev at : Steps → After → After
+at w s = w (s .called .machine) (s .cells) 0
+
+-- it keeps the promise of `step`
+abbrev Keeps : Steps → Type 0
+Keeps w = (m : Machine) (cells : List ℕ) (t : ℕ) → w m cells t ≡ stepOf m cells t
+
+-- it does not where something that can be looked at is another
+shut-out : (w : Steps) (look : After → ℕ) (s : After) (a b : ℕ) → look (at w s) ≡ a → look (at stepOf s) ≡ b → (a ≡ b → ⊥) → Keeps w → ⊥
+shut-out w look s a b x y differ same = differ (sym x ∙ ap look (same (s .called .machine) (s .cells) 0) ∙ y)
+
+-- ---- what to look at
+
+abbrev kind : After → ℕ
+kind a = told (answerOf a) .kind
+
+abbrev length : After → ℕ
+length a = told (answerOf a) .length
+
+abbrev front : After → ℕ
+front a = modZ (queueAt (a .called .machine) 0 .front .0) 64
+
+abbrev back : After → ℕ
+back a = modZ (queueAt (a .called .machine) 0 .back .0) 64
+
+-- ---- states: a push begun; about to store its back; a length about to be answered; a steal about to exchange for job 7
+
+abbrev begun : After
+begun = begin 0 (Push 7) (setup (Fifo ∷ []) 1)
+
+abbrev written : After
+written = steps 0 3 begun
+
+abbrev asked : After
+asked = steps 0 1 (begin 0 (Length 0) (setup (Fifo ∷ []) 1))
+
+abbrev stealing : After
+stealing = steps 0 5 (begin 0 (Steal 0) (alone 0 (Push 7) (setup (Fifo ∷ []) 1) .left))
+
+-- ---- the wrong machines
+
+abbrev pub refuses : Steps
+refuses m cells t = refused m NoSuch cells
+
+abbrev pub says-empty : Steps
+says-empty m cells t = after m (A.Stolen T.Empty) cells
+
+abbrev pub says-retry : Steps
+says-retry m cells t = after m (A.Stolen T.Retry) cells
+
+-- it answers as it should and leaves all as it was: a push that is done stores nothing, and a job that is stolen stays, so that it is copied
+abbrev pub stands-still : Steps
+stands-still m cells t = after m (stepOf m cells t .called .answer) cells
+
+-- it does a whole push at its first step, and then idles
+abbrev pub does-all : Steps
+does-all m cells t = steps t 4 (after m A.Working cells)
+
+abbrev pub makes-up : Steps
+makes-up m cells t = after m (A.Length (pos 7) 7) cells
+
+-- ---- what is promised there, and what those machines show that play on
+
+pub promised : (kind (at stepOf begun) ≡ 0) × (back (at stepOf written) ≡ 1) × (front (at stepOf stealing) ≡ 1) × (length (at stepOf asked) ≡ 0)
+unfolding steps finish allBelow anyBelow firstNot wrap plusOf differenceOf lengthOf behindB emptyB fullB spansB sameB cellOf allowedB standsB spot readOf writtenOf soundB freeRing setupOf gateOf stepOf beginOf ones onesIn
+promised = (refl, refl, refl, refl)
+
+pub shown : (back (at stands-still written) ≡ 0) × (front (at stands-still stealing) ≡ 0) × (kind (at does-all begun) ≡ 1)
+unfolding steps finish allBelow anyBelow firstNot wrap plusOf differenceOf lengthOf behindB emptyB fullB spansB sameB cellOf allowedB standsB spot readOf writtenOf soundB freeRing setupOf gateOf stepOf beginOf ones onesIn
+shown = (refl, refl, refl)
+
+-- ---- each is shut out
+
+pub always-refuses : Keeps refuses → ⊥
+always-refuses = shut-out refuses kind begun 10 0 refl (promised .0) (λ e. omega arith)
+
+pub always-empty : Keeps says-empty → ⊥
+always-empty = shut-out says-empty kind begun 4 0 refl (promised .0) (λ e. omega arith)
+
+pub always-retry : Keeps says-retry → ⊥
+always-retry = shut-out says-retry kind begun 6 0 refl (promised .0) (λ e. omega arith)
+
+pub never-moves : Keeps stands-still → ⊥
+never-moves = shut-out stands-still back written 0 1 (shown .0) (promised .1) (λ e. omega arith)
+
+pub copies-jobs : Keeps stands-still → ⊥
+copies-jobs = shut-out stands-still front stealing 0 1 (shown .1) (promised .2) (λ e. omega arith)
+
+pub all-at-once : Keeps does-all → ⊥
+all-at-once = shut-out does-all kind begun 1 0 (shown .2) (promised .0) (λ e. omega arith)
+
+pub makes-up-lengths : Keeps makes-up → ⊥
+makes-up-lengths = shut-out makes-up length asked 7 0 refl (promised .3) (λ e. omega arith)
