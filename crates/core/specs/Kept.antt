@@ -7,14 +7,8 @@ use Rattle.core.specs.declared.stage.PopStage.{PopStage}
 use Rattle.core.specs.declared.stage.PopStage.the-variants as P
 use Rattle.core.specs.declared.stage.StealStage.{StealStage}
 use Rattle.core.specs.declared.stage.StealStage.the-variants as T
-use Rattle.core.specs.declared.stage.AllStage.{AllStage}
-use Rattle.core.specs.declared.stage.AllStage.the-variants as A
-use Rattle.core.specs.declared.stage.OneStage.{OneStage}
-use Rattle.core.specs.declared.stage.OneStage.the-variants as E
 use Rattle.core.specs.declared.stage.ReserveStage.{ReserveStage}
 use Rattle.core.specs.declared.stage.ReserveStage.the-variants as Y
-use Rattle.core.specs.declared.stage.SwapStage.{SwapStage}
-use Rattle.core.specs.declared.stage.SwapStage.the-variants as X
 use Rattle.core.specs.declared.stage.SourceStage.{SourceStage}
 use Rattle.core.specs.declared.stage.SourceStage.the-variants as S
 use Rattle.core.specs.declared.stage.OwnStage.{OwnStage}
@@ -50,44 +44,21 @@ stealKeeps (T.Read f ring) = Held ring
 stealKeeps (T.ReloadRing f ring job) = Held ring
 stealKeeps (T.Exchange f ring job) = Held ring
 
-abbrev pub allKeeps : AllStage → Kept
-allKeeps (A.Copy h i) = Held (h .ring)
-allKeeps (A.ReloadRing h) = Held (h .ring)
-allKeeps (A.Exchange h) = Held (h .ring)
-
-abbrev pub oneKeeps : OneStage → Kept
-oneKeeps (E.ExchangeFirst h job) = Held (h .ring)
-oneKeeps (E.ReloadBack h i) = Held (h .ring)
-oneKeeps (E.Read h i) = Held (h .ring)
-oneKeeps (E.ReloadRing h i job) = Held (h .ring)
-oneKeeps (E.Exchange h i job) = Held (h .ring)
-
 abbrev pub sourceKeeps : SourceStage → Kept
 sourceKeeps (S.LoadFront kind others) = Nothing
 sourceKeeps (S.LoadBack kind others f) = Nothing
 sourceKeeps (S.LoadRing w b) = Nothing
-sourceKeeps (S.ReadFirst h) = Held (h .ring)
-sourceKeeps (S.All at) = allKeeps at
-sourceKeeps (S.One at) = oneKeeps at
+sourceKeeps (S.Take h at) = Held (h .ring)
 
 abbrev pub reserveKeeps : ReserveStage → Kept
-reserveKeeps (Y.LoadBack w) = Nothing
-reserveKeeps (Y.LoadFront w b) = Nothing
-reserveKeeps (Y.Resize w at) = resizeKeeps at
-
-abbrev pub swapKeeps : SwapStage → Kept
-swapKeeps (X.ReadNear h x) = Held (h .ring)
-swapKeeps (X.ReadFar h x near) = Held (h .ring)
-swapKeeps (X.WriteNear h x near far) = Held (h .ring)
-swapKeeps (X.WriteFar h x near) = Held (h .ring)
+reserveKeeps Y.LoadBack = Nothing
+reserveKeeps (Y.LoadFront b) = Nothing
+reserveKeeps (Y.Resize at) = resizeKeeps at
 
 abbrev pub ownKeeps : OwnStage → Kept
-ownKeeps (O.Reserve at) = reserveKeeps at
+ownKeeps (O.Reserve w at) = reserveKeeps at
 ownKeeps (O.LoadBack w) = Nothing
-ownKeeps (O.WriteCopy h i job) = Held (h .ring)
-ownKeeps (O.WriteOne h i job) = Held (h .ring)
-ownKeeps (O.Swap at) = swapKeeps at
-ownKeeps (O.StoreBack h) = Held (h .ring)
+ownKeeps (O.Put h at) = Held (h .ring)
 
 abbrev pub keptOf : Stage → Kept
 keptOf Idle = Nothing

@@ -55,17 +55,14 @@ popClaims (P.Lifo at) = false
 popClaims (P.Shrink job at) = resizeClaims at
 
 abbrev pub reserveClaims : ReserveStage → Bool
-reserveClaims (Y.LoadBack w) = false
-reserveClaims (Y.LoadFront w b) = false
-reserveClaims (Y.Resize w at) = resizeClaims at
+reserveClaims Y.LoadBack = false
+reserveClaims (Y.LoadFront b) = false
+reserveClaims (Y.Resize at) = resizeClaims at
 
 abbrev pub ownClaims : OwnStage → Bool
-ownClaims (O.Reserve at) = reserveClaims at
+ownClaims (O.Reserve w at) = reserveClaims at
 ownClaims (O.LoadBack w) = false
-ownClaims (O.WriteCopy h i job) = false
-ownClaims (O.WriteOne h i job) = false
-ownClaims (O.Swap at) = false
-ownClaims (O.StoreBack h) = false
+ownClaims (O.Put h at) = false
 
 abbrev pub claimsB : Stage → Bool
 claimsB Idle = false

@@ -1,9 +1,7 @@
 // The ring that a stage keeps alive beside the queues' current ones; there is never more than one.
 ghost use mathlib.Core.Path.{_≡_};
-ghost use Rattle.core.specs.Kept.{resizeKeeps, pushKeeps, popKeeps, stealKeeps, allKeeps, oneKeeps, sourceKeeps, reserveKeeps, swapKeeps, ownKeeps, keptOf};
-use crate::stage::AllStage;
+ghost use Rattle.core.specs.Kept.{resizeKeeps, pushKeeps, popKeeps, stealKeeps, sourceKeeps, reserveKeeps, ownKeeps, keptOf};
 use crate::stage::Haul;
-use crate::stage::OneStage;
 use crate::stage::OwnStage;
 use crate::stage::PopStage;
 use crate::stage::PushStage;
@@ -12,7 +10,6 @@ use crate::stage::ResizeStage;
 use crate::stage::SourceStage;
 use crate::stage::Stage;
 use crate::stage::StealStage;
-use crate::stage::SwapStage;
 use ring::Ring;
 
 // A ring that is being built, from the claim to the swap, or one that is held, from its load until the answer.
@@ -75,28 +72,6 @@ fn held(haul: Haul) -> Kept
     Kept::Held(ring)
 }
 
-fn all_keeps(at: AllStage) -> Kept
-    ensures { λ r. ⌜ r ≡ allKeeps at ⌝ }
-{
-    match at {
-        AllStage::Copy { haul, i: _ } => held(haul),
-        AllStage::ReloadRing { haul } => held(haul),
-        AllStage::Exchange { haul } => held(haul),
-    }
-}
-
-fn one_keeps(at: OneStage) -> Kept
-    ensures { λ r. ⌜ r ≡ oneKeeps at ⌝ }
-{
-    match at {
-        OneStage::ExchangeFirst { haul, job: _ } => held(haul),
-        OneStage::ReloadBack { haul, i: _ } => held(haul),
-        OneStage::Read { haul, i: _ } => held(haul),
-        OneStage::ReloadRing { haul, i: _, job: _ } => held(haul),
-        OneStage::Exchange { haul, i: _, job: _ } => held(haul),
-    }
-}
-
 fn source_keeps(at: SourceStage) -> Kept
     ensures { λ r. ⌜ r ≡ sourceKeeps at ⌝ }
 {
@@ -108,9 +83,7 @@ fn source_keeps(at: SourceStage) -> Kept
             f: _,
         } => Kept::Nothing,
         SourceStage::LoadRing { wanted: _, b: _ } => Kept::Nothing,
-        SourceStage::ReadFirst { haul } => held(haul),
-        SourceStage::All(stage) => all_keeps(stage),
-        SourceStage::One(stage) => one_keeps(stage),
+        SourceStage::Take(haul, _) => held(haul),
     }
 }
 
@@ -118,33 +91,9 @@ fn reserve_keeps(at: ReserveStage) -> Kept
     ensures { λ r. ⌜ r ≡ reserveKeeps at ⌝ }
 {
     match at {
-        ReserveStage::LoadBack { wanted: _ } => Kept::Nothing,
-        ReserveStage::LoadFront { wanted: _, b: _ } => Kept::Nothing,
-        ReserveStage::Resize { wanted: _, at } => resize_keeps(at),
-    }
-}
-
-fn swap_keeps(at: SwapStage) -> Kept
-    ensures { λ r. ⌜ r ≡ swapKeeps at ⌝ }
-{
-    match at {
-        SwapStage::ReadNear { haul, x: _ } => held(haul),
-        SwapStage::ReadFar {
-            haul,
-            x: _,
-            near: _,
-        } => held(haul),
-        SwapStage::WriteNear {
-            haul,
-            x: _,
-            near: _,
-            far: _,
-        } => held(haul),
-        SwapStage::WriteFar {
-            haul,
-            x: _,
-            near: _,
-        } => held(haul),
+        ReserveStage::LoadBack => Kept::Nothing,
+        ReserveStage::LoadFront { b: _ } => Kept::Nothing,
+        ReserveStage::Resize(stage) => resize_keeps(stage),
     }
 }
 
@@ -152,12 +101,9 @@ fn own_keeps(at: OwnStage) -> Kept
     ensures { λ r. ⌜ r ≡ ownKeeps at ⌝ }
 {
     match at {
-        OwnStage::Reserve(stage) => reserve_keeps(stage),
+        OwnStage::Reserve(_, stage) => reserve_keeps(stage),
         OwnStage::LoadBack { wanted: _ } => Kept::Nothing,
-        OwnStage::WriteCopy { haul, i: _, job: _ } => held(haul),
-        OwnStage::WriteOne { haul, i: _, job: _ } => held(haul),
-        OwnStage::Swap(stage) => swap_keeps(stage),
-        OwnStage::StoreBack { haul } => held(haul),
+        OwnStage::Put(haul, _) => held(haul),
     }
 }
 

@@ -99,18 +99,25 @@ pub struct Haul {
 
 // Taking from a FIFO source all at once. i: jobs copied so far.
 pub enum AllStage {
-    Copy { haul: Haul, i: u64 },
-    ReloadRing { haul: Haul },
-    Exchange { haul: Haul },
+    Copy { i: u64 },
+    ReloadRing,
+    Exchange,
 }
 
 // Taking from a LIFO source one by one. i: jobs written so far.
 pub enum OneStage {
-    ExchangeFirst { haul: Haul, job: u64 },
-    ReloadBack { haul: Haul, i: u64 },
-    Read { haul: Haul, i: u64 },
-    ReloadRing { haul: Haul, i: u64, job: u64 },
-    Exchange { haul: Haul, i: u64, job: u64 },
+    ExchangeFirst { job: u64 },
+    ReloadBack { i: u64 },
+    Read { i: u64 },
+    ReloadRing { i: u64, job: u64 },
+    Exchange { i: u64, job: u64 },
+}
+
+// Taking from the source, while its ring is held.
+pub enum TakeStage {
+    ReadFirst,
+    All(AllStage),
+    One(OneStage),
 }
 
 // The steps of a batch on its source. others: the limit less one.
@@ -128,51 +135,36 @@ pub enum SourceStage {
         wanted: Wanted,
         b: Index,
     },
-    ReadFirst {
-        haul: Haul,
-    },
-    All(AllStage),
-    One(OneStage),
+    Take(Haul, TakeStage),
 }
 
 pub enum ReserveStage {
-    LoadBack { wanted: Wanted },
-    LoadFront { wanted: Wanted, b: Index },
-    Resize { wanted: Wanted, at: ResizeStage },
+    LoadBack,
+    LoadFront { b: Index },
+    Resize(ResizeStage),
 }
 
-// The reversal, by swaps from the outside in. x: swaps made so far.
+// A swap of the reversal.
 pub enum SwapStage {
-    ReadNear {
-        haul: Haul,
-        x: u64,
-    },
-    ReadFar {
-        haul: Haul,
-        x: u64,
-        near: u64,
-    },
-    WriteNear {
-        haul: Haul,
-        x: u64,
-        near: u64,
-        far: u64,
-    },
-    WriteFar {
-        haul: Haul,
-        x: u64,
-        near: u64,
-    },
+    ReadNear,
+    ReadFar { near: u64 },
+    WriteNear { near: u64, far: u64 },
+    WriteFar { near: u64 },
+}
+
+// Putting what was taken into the own queue. The reversal is by swaps from the outside in; x: swaps made so far.
+pub enum PutStage {
+    WriteCopy { i: u64, job: u64 },
+    WriteOne { i: u64, job: u64 },
+    Swap { x: u64, at: SwapStage },
+    StoreBack,
 }
 
 // The steps of a batch on the thread's own queue.
 pub enum OwnStage {
-    Reserve(ReserveStage),
+    Reserve(Wanted, ReserveStage),
     LoadBack { wanted: Wanted },
-    WriteCopy { haul: Haul, i: u64, job: u64 },
-    WriteOne { haul: Haul, i: u64, job: u64 },
-    Swap(SwapStage),
-    StoreBack { haul: Haul },
+    Put(Haul, PutStage),
 }
 
 // Of a steal, a length and a batch the first number is the queue that it names.

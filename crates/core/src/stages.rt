@@ -80,9 +80,9 @@ fn reserve_claims(at: ReserveStage) -> bool
     ensures { λ r. ⌜ r ≡ reserveClaims at ⌝ }
 {
     match at {
-        ReserveStage::LoadBack { wanted: _ } => false,
-        ReserveStage::LoadFront { wanted: _, b: _ } => false,
-        ReserveStage::Resize { wanted: _, at } => resize_claims(at),
+        ReserveStage::LoadBack => false,
+        ReserveStage::LoadFront { b: _ } => false,
+        ReserveStage::Resize(stage) => resize_claims(stage),
     }
 }
 
@@ -90,20 +90,9 @@ fn own_claims(at: OwnStage) -> bool
     ensures { λ r. ⌜ r ≡ ownClaims at ⌝ }
 {
     match at {
-        OwnStage::Reserve(stage) => reserve_claims(stage),
+        OwnStage::Reserve(_, stage) => reserve_claims(stage),
         OwnStage::LoadBack { wanted: _ } => false,
-        OwnStage::WriteCopy {
-            haul: _,
-            i: _,
-            job: _,
-        } => false,
-        OwnStage::WriteOne {
-            haul: _,
-            i: _,
-            job: _,
-        } => false,
-        OwnStage::Swap(_) => false,
-        OwnStage::StoreBack { haul: _ } => false,
+        OwnStage::Put(_, _) => false,
     }
 }
 

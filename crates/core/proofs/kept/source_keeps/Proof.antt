@@ -18,18 +18,6 @@ enum-known-at c = search needs
 held-requires : tie.Need-held-requires
 held-requires c κs = search needs
 
-enum-known-at-2 : tie.Need-enum-known-at-2
-enum-known-at-2 c = search needs
-
-all-keeps-requires : tie.Need-all-keeps-requires
-all-keeps-requires c κs = search needs
-
-enum-known-at-3 : tie.Need-enum-known-at-3
-enum-known-at-3 c = search needs
-
-one-keeps-requires : tie.Need-one-keeps-requires
-one-keeps-requires c κs = search needs
-
 returns : tie.Need-returns
 returns c = search needs
 
@@ -42,12 +30,6 @@ returns-3 c = search needs
 returns-4 : tie.Need-returns-4
 returns-4 c = rw (c .before .before .at .given .1, c .held .ensures)
 
-returns-5 : tie.Need-returns-5
-returns-5 c = search needs
-
-returns-6 : tie.Need-returns-6
-returns-6 c = search needs
-
 pub source-keeps-spec : {M : Type 1} → statement M
 source-keeps-spec =
     tie.close
@@ -57,13 +39,7 @@ source-keeps-spec =
     enum-told-3
     enum-known-at
     held-requires
-    enum-known-at-2
-    all-keeps-requires
-    enum-known-at-3
-    one-keeps-requires
     returns
     returns-2
     returns-3
-    returns-4
-    returns-5
-    returns-6)
+    returns-4)
