@@ -16,14 +16,14 @@ pub fn mag(a: i64) -> u64
 }
 
 // The two's complement bits of a number.
-fn bits(a: i64) -> u64
+pub fn bits(a: i64) -> u64
     ensures { λ r. ⌜ r ≡ modZ a (2 ^ 64) ⌝ }
 {
     if a >= 0 { mag(a) } else { u64::MAX - mag(a) }
 }
 
 // The number with these two's complement bits.
-fn signed(u: u64) -> i64
+pub fn signed(u: u64) -> i64
     ensures { λ r. ⌜ r ≡ toZ w64 u ⌝ }
 {
     if u < 0x8000_0000_0000_0000 {

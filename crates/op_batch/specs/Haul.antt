@@ -16,13 +16,15 @@ use Rattle.core.specs.declared.stage.InHand.{InHand}
 use Rattle.core.specs.declared.stage.InHand.the-variants.{Nothing, Job}
 use Rattle.core.specs.declared.stage.Wanted.{Wanted}
 use Rattle.core.specs.declared.stage.Haul.{Haul}
-use Rattle.core.specs.declared.stage.AllStage.{AllStage}
 use Rattle.core.specs.declared.stage.AllStage.the-variants as A
-use Rattle.core.specs.declared.stage.OneStage.{OneStage}
 use Rattle.core.specs.declared.stage.OneStage.the-variants as E
+use Rattle.core.specs.declared.stage.TakeStage.{TakeStage}
+use Rattle.core.specs.declared.stage.TakeStage.the-variants.{All, One}
 use Rattle.core.specs.declared.stage.ReserveStage.{ReserveStage}
 use Rattle.core.specs.declared.stage.ReserveStage.the-variants as Y
 use Rattle.core.specs.declared.stage.SwapStage.the-variants as X
+use Rattle.core.specs.declared.stage.PutStage.{PutStage}
+use Rattle.core.specs.declared.stage.PutStage.the-variants as W
 use Rattle.core.specs.declared.stage.SourceStage.the-variants as S
 use Rattle.core.specs.declared.stage.OwnStage.{OwnStage}
 use Rattle.core.specs.declared.stage.OwnStage.the-variants as O
@@ -30,16 +32,18 @@ use Rattle.core.specs.declared.answer.Answer.{Answer}
 use Rattle.core.specs.declared.answer.Answer.the-variants.{Stolen, Moved}
 use Rattle.op_batch.specs.declared.BatchOut.{BatchOut}
 use Rattle.op_batch.specs.declared.BatchOut.the-variants.{Source, Own, Ended}
+use Rattle.op_batch.specs.declared.Further.{Further}
+use Rattle.op_batch.specs.declared.Further.the-variants.{Next, Over}
 
 -- on to a stage of a part of the batch
-abbrev pub allAt : Queue → AllStage → BatchOut
-allAt q at = Source q (S.All at)
+abbrev pub takeAt : Queue → Haul → TakeStage → BatchOut
+takeAt q h at = Source q (S.Take h at)
 
-abbrev pub oneAt : Queue → OneStage → BatchOut
-oneAt q at = Source q (S.One at)
+abbrev pub putAt : Queue → Haul → PutStage → BatchOut
+putAt q h at = Own q (O.Put h at)
 
-abbrev pub reserveAt : Queue → ReserveStage → BatchOut
-reserveAt q at = Own q (O.Reserve at)
+abbrev pub reserveAt : Queue → Wanted → ReserveStage → BatchOut
+reserveAt q w at = Own q (O.Reserve w at)
 
 -- n, of a difference d and a limit, which is others + 1: n = min((d + 1) / 2, limit); of a batch and pop min((d - 1) / 2, limit - 1)
 abbrev pub wantedOf : BatchKind → ℕ → ℕ → ℕ
@@ -48,7 +52,7 @@ wantedOf BatchAndPop d others = min ((d - 1) / 2) others
 
 -- reserve n in the own queue, if n > 0
 abbrev pub reserving : Wanted → OwnStage
-reserving w = pick (eqb (w .n) 0) (O.LoadBack w) (O.Reserve (Y.LoadBack w))
+reserving w = pick (eqb (w .n) 0) (O.LoadBack w) (O.Reserve w Y.LoadBack)
 
 abbrev pub hauling : Ring → Wanted → Index → Haul
 hauling ring w b = record { ring = ring; f = w .f; n = w .n; b = b; «in_hand» = Nothing }
@@ -63,6 +67,10 @@ onward h j = record { ring = h .ring; f = plusOf (h .f) 1; n = h .n; b = h .b; �
 abbrev pub withCount : Haul → ℕ → Haul
 withCount h i = record { ring = h .ring; f = h .f; n = i; b = h .b; «in_hand» = h .«in_hand» }
 
+-- of n, i are done: the next, or none
+abbrev pub turnOf : ℕ → ℕ → Further
+turnOf n i = pick (leb n i) Over (Next i)
+
 -- ---- FIFO source: for each of n, read source cell, write own cell (into LIFO: last first)
 
 -- the first of the n jobs: at f, or at f + 1 where the job at f is in hand
@@ -70,9 +78,10 @@ abbrev pub firstOf : InHand → Index → Index
 firstOf Nothing f = f
 firstOf (Job job) f = plusOf f 1
 
--- i copied: the next, or load ring
-abbrev pub copying : Haul → ℕ → AllStage
-copying h i = pick (leb (h .n) i) (A.ReloadRing h) (A.Copy h i)
+-- copy the next, or load ring
+abbrev pub copying : Further → TakeStage
+copying (Next i) = All (A.Copy i)
+copying Over = All A.ReloadRing
 
 -- the i-th of n from the other end
 abbrev pub mirrorOf : ℕ → ℕ → ℕ
@@ -85,14 +94,15 @@ slotOf Lifo h i = plusOf (h .b) (mirrorOf (h .n) i)
 
 -- ---- LIFO source, n times
 
--- swaps from the outside in, x made: the next, or store own back
-abbrev pub swapping : Haul → ℕ → OwnStage
-swapping h x = pick (leb (h .n / 2) x) (O.StoreBack h) (O.Swap (X.ReadNear h x))
+-- make the next swap, from the outside in, or store own back
+abbrev pub swapping : Further → PutStage
+swapping (Next x) = W.Swap x X.ReadNear
+swapping Over = W.StoreBack
 
--- into FIFO: reverse what was written
-abbrev pub landing : Flavor → Haul → OwnStage
-landing Fifo h = swapping h 0
-landing Lifo h = O.StoreBack h
+-- n are written. Into FIFO: reverse them
+abbrev pub landing : Flavor → ℕ → PutStage
+landing Fifo n = swapping (turnOf (n / 2) 0)
+landing Lifo n = W.StoreBack
 
 abbrev pub isNothing : InHand → Bool
 isNothing Nothing = true
@@ -100,11 +110,12 @@ isNothing (Job job) = false
 
 -- stop, with i written. None taken: Retry
 abbrev pub stopped : Flavor → Haul → ℕ → Queue → BatchOut
-stopped own h i q = pick (isNothing (h .«in_hand») && eqb i 0) (Ended q (Stolen Retry)) (Own q (landing own (withCount h i)))
+stopped own h i q = pick (isNothing (h .«in_hand») && eqb i 0) (Ended q (Stolen Retry)) (putAt q (withCount h i) (landing own i))
 
--- i written: load back for the next, or stop after n
-abbrev pub turning : Flavor → Haul → ℕ → Queue → BatchOut
-turning own h i q = pick (leb (h .n) i) (stopped own h (h .n) q) (oneAt q (E.ReloadBack h i))
+-- load back for the next, or stop after n
+abbrev pub turning : Flavor → Haul → Further → Queue → BatchOut
+turning own h (Next i) q = takeAt q h (One (E.ReloadBack i))
+turning own h Over q = stopped own h (h .n) q
 
 -- the exchange for a job was won: what to write (of a batch and pop the PREVIOUS job), and what is then in hand
 abbrev pub toWrite : InHand → ℕ → ℕ

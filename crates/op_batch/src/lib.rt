@@ -1,8 +1,7 @@
 // What both halves of a batch share: how many jobs it wants, which stage comes next, which cells it works on.
 ghost use mathlib.Core.Path.{_≡_};
 ghost use Prim.Native.Nat.{_+_, min};
-ghost use lib.Dec.{leb};
-ghost use Rattle.op_batch.specs.Haul.{allAt, oneAt, reserveAt, wantedOf, reserving as reservingOf, withJob, onward as onwardOf, withCount, firstOf, copying as copyingOf, mirrorOf, slotOf, swapping as swappingOf, landing as landingOf, isNothing, stopped as stoppedOf, turning as turningOf, toWrite, nextInHand, answerOf};
+ghost use Rattle.op_batch.specs.Haul.{takeAt, putAt, reserveAt, wantedOf, reserving as reservingOf, withJob, onward as onwardOf, withCount, turnOf, firstOf, copying as copyingOf, mirrorOf, slotOf, swapping as swappingOf, landing as landingOf, isNothing, stopped as stoppedOf, turning as turningOf, toWrite, nextInHand, answerOf};
 use core::answer::Answer;
 use core::queue::Flavor;
 use core::queue::Queue;
@@ -12,9 +11,11 @@ use core::stage::Haul;
 use core::stage::InHand;
 use core::stage::OneStage;
 use core::stage::OwnStage;
+use core::stage::PutStage;
 use core::stage::ReserveStage;
 use core::stage::SourceStage;
 use core::stage::SwapStage;
+use core::stage::TakeStage;
 use core::stage::Wanted;
 use index::Index;
 use steal::Steal;
@@ -26,23 +27,29 @@ pub enum BatchOut {
     Ended(Queue, Answer),
 }
 
+// Whether one more is to be done: the next, after so many, or none.
+pub enum Further {
+    Next(u64),
+    Over,
+}
+
 // On to a stage of a part of the batch.
-pub fn all_at(q: Queue, at: AllStage) -> BatchOut
-    ensures { λ r. ⌜ r ≡ allAt q at ⌝ }
+pub fn take_at(q: Queue, haul: Haul, at: TakeStage) -> BatchOut
+    ensures { λ r. ⌜ r ≡ takeAt q haul at ⌝ }
 {
-    BatchOut::Source(q, SourceStage::All(at))
+    BatchOut::Source(q, SourceStage::Take(haul, at))
 }
 
-pub fn one_at(q: Queue, at: OneStage) -> BatchOut
-    ensures { λ r. ⌜ r ≡ oneAt q at ⌝ }
+pub fn put_at(q: Queue, haul: Haul, at: PutStage) -> BatchOut
+    ensures { λ r. ⌜ r ≡ putAt q haul at ⌝ }
 {
-    BatchOut::Source(q, SourceStage::One(at))
+    BatchOut::Own(q, OwnStage::Put(haul, at))
 }
 
-pub fn reserve_at(q: Queue, at: ReserveStage) -> BatchOut
-    ensures { λ r. ⌜ r ≡ reserveAt q at ⌝ }
+pub fn reserve_at(q: Queue, wanted: Wanted, at: ReserveStage) -> BatchOut
+    ensures { λ r. ⌜ r ≡ reserveAt q wanted at ⌝ }
 {
-    BatchOut::Own(q, OwnStage::Reserve(at))
+    BatchOut::Own(q, OwnStage::Reserve(wanted, at))
 }
 
 fn smaller(a: u64, b: u64) -> u64
@@ -76,7 +83,7 @@ pub fn reserving(wanted: Wanted) -> OwnStage
     if wanted.n == 0 {
         return OwnStage::LoadBack { wanted };
     }
-    OwnStage::Reserve(ReserveStage::LoadBack { wanted })
+    OwnStage::Reserve(wanted, ReserveStage::LoadBack)
 }
 
 pub fn with_job(haul: Haul, job: u64) -> Haul
@@ -117,14 +124,24 @@ fn with_count(haul: Haul, n: u64) -> Haul
     r
 }
 
-// Whether n is reached once one more than i is done.
-fn reached(i: u64, n: u64) -> bool
-    ensures { λ r. ⌜ r ≡ leb n (i + 1) ⌝ }
+// Of n, so many are done.
+pub fn turn(n: u64, done: u64) -> Further
+    ensures { λ r. ⌜ r ≡ turnOf n done ⌝ }
 {
-    if n <= i {
-        return true;
+    if n <= done {
+        return Further::Over;
     }
-    n <= i + 1
+    Further::Next(done)
+}
+
+// Of n, one more than so many are done.
+pub fn turn_after(n: u64, done: u64) -> Further
+    ensures { λ r. ⌜ r ≡ turnOf n (done + 1) ⌝ }
+{
+    if n <= done {
+        return Further::Over;
+    }
+    turn(n, done + 1)
 }
 
 // The first of the jobs to be copied: at f, or the next where the job at f is in hand.
@@ -137,24 +154,14 @@ pub fn first(in_hand: InHand, f: Index) -> Index
     }
 }
 
-// So many are copied: the next, or load the ring again.
-pub fn copying(haul: Haul, i: u64) -> AllStage
-    ensures { λ r. ⌜ r ≡ copyingOf haul i ⌝ }
+// Copy the next, or load the ring again.
+pub fn copying(further: Further) -> TakeStage
+    ensures { λ r. ⌜ r ≡ copyingOf further ⌝ }
 {
-    if haul.n <= i {
-        return AllStage::ReloadRing { haul };
+    match further {
+        Further::Next(i) => TakeStage::All(AllStage::Copy { i }),
+        Further::Over => TakeStage::All(AllStage::ReloadRing),
     }
-    AllStage::Copy { haul, i }
-}
-
-// One more than so many are copied.
-pub fn copied(haul: Haul, i: u64) -> AllStage
-    ensures { λ r. ⌜ r ≡ copyingOf haul (i + 1) ⌝ }
-{
-    if reached(i, haul.n) {
-        return AllStage::ReloadRing { haul };
-    }
-    AllStage::Copy { haul, i: i + 1 }
 }
 
 // The i-th of n from the other end.
@@ -174,33 +181,26 @@ pub fn slot(own: Flavor, haul: Haul, i: u64) -> Index
     }
 }
 
-// So many swaps are made: the next, or store the own back.
-fn swapping(haul: Haul, x: u64) -> OwnStage
-    ensures { λ r. ⌜ r ≡ swappingOf haul x ⌝ }
+// Make the next swap, or store the own back.
+pub fn swapping(further: Further) -> PutStage
+    ensures { λ r. ⌜ r ≡ swappingOf further ⌝ }
 {
-    if haul.n / 2 <= x {
-        return OwnStage::StoreBack { haul };
+    match further {
+        Further::Next(x) => PutStage::Swap {
+            x,
+            at: SwapStage::ReadNear,
+        },
+        Further::Over => PutStage::StoreBack,
     }
-    OwnStage::Swap(SwapStage::ReadNear { haul, x })
 }
 
-// One more than so many swaps are made.
-pub fn swapped(haul: Haul, x: u64) -> OwnStage
-    ensures { λ r. ⌜ r ≡ swappingOf haul (x + 1) ⌝ }
-{
-    if reached(x, haul.n / 2) {
-        return OwnStage::StoreBack { haul };
-    }
-    OwnStage::Swap(SwapStage::ReadNear { haul, x: x + 1 })
-}
-
-// All is written: into a FIFO queue it is reversed.
-fn landing(own: Flavor, haul: Haul) -> OwnStage
-    ensures { λ r. ⌜ r ≡ landingOf own haul ⌝ }
+// All n are written: into a FIFO queue they are reversed.
+fn landing(own: Flavor, n: u64) -> PutStage
+    ensures { λ r. ⌜ r ≡ landingOf own n ⌝ }
 {
     match own {
-        Flavor::Fifo => swapping(haul, 0),
-        Flavor::Lifo => OwnStage::StoreBack { haul },
+        Flavor::Fifo => swapping(turn(n / 2, 0)),
+        Flavor::Lifo => PutStage::StoreBack,
     }
 }
 
@@ -221,27 +221,17 @@ pub fn stopped(own: Flavor, haul: Haul, i: u64, q: Queue) -> BatchOut
     if is_nothing(in_hand) & (i == 0) {
         return BatchOut::Ended(q, Answer::Stolen(Steal::Retry));
     }
-    BatchOut::Own(q, landing(own, with_count(haul, i)))
+    put_at(q, with_count(haul, i), landing(own, i))
 }
 
-// So many are written: load the back again for the next, or stop after n.
-pub fn turning(own: Flavor, haul: Haul, i: u64, q: Queue) -> BatchOut
-    ensures { λ r. ⌜ r ≡ turningOf own haul i q ⌝ }
+// Load the back again for the next, or stop after n.
+pub fn turning(own: Flavor, haul: Haul, further: Further, q: Queue) -> BatchOut
+    ensures { λ r. ⌜ r ≡ turningOf own haul further q ⌝ }
 {
-    if haul.n <= i {
-        return stopped(own, haul, haul.n, q);
+    match further {
+        Further::Next(i) => take_at(q, haul, TakeStage::One(OneStage::ReloadBack { i })),
+        Further::Over => stopped(own, haul, haul.n, q),
     }
-    one_at(q, OneStage::ReloadBack { haul, i })
-}
-
-// One more than so many are written.
-pub fn turned(own: Flavor, haul: Haul, i: u64, q: Queue) -> BatchOut
-    ensures { λ r. ⌜ r ≡ turningOf own haul (i + 1) q ⌝ }
-{
-    if reached(i, haul.n) {
-        return stopped(own, haul, haul.n, q);
-    }
-    one_at(q, OneStage::ReloadBack { haul, i: i + 1 })
 }
 
 // The exchange for a job was won: what to write, of a batch and pop the previous job.

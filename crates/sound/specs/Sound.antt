@@ -21,10 +21,12 @@ use Rattle.core.specs.declared.stage.AllStage.{AllStage}
 use Rattle.core.specs.declared.stage.AllStage.the-variants as A
 use Rattle.core.specs.declared.stage.OneStage.{OneStage}
 use Rattle.core.specs.declared.stage.OneStage.the-variants as E
+use Rattle.core.specs.declared.stage.TakeStage.{TakeStage}
+use Rattle.core.specs.declared.stage.TakeStage.the-variants as X
+use Rattle.core.specs.declared.stage.PutStage.{PutStage}
+use Rattle.core.specs.declared.stage.PutStage.the-variants as W
 use Rattle.core.specs.declared.stage.ReserveStage.{ReserveStage}
 use Rattle.core.specs.declared.stage.ReserveStage.the-variants as Y
-use Rattle.core.specs.declared.stage.SwapStage.{SwapStage}
-use Rattle.core.specs.declared.stage.SwapStage.the-variants as X
 use Rattle.core.specs.declared.stage.SourceStage.{SourceStage}
 use Rattle.core.specs.declared.stage.SourceStage.the-variants as S
 use Rattle.core.specs.declared.stage.OwnStage.{OwnStage}
@@ -100,44 +102,44 @@ wantedSound w = leb (w .n) largest
 abbrev pub haulSound : Haul → ℕ → Bool
 haulSound h i = leb (h .n) largest && leb i (h .n)
 
-abbrev pub allSound : AllStage → Bool
-allSound (A.Copy h i) = haulSound h i
-allSound (A.ReloadRing h) = haulSound h 0
-allSound (A.Exchange h) = haulSound h 0
+abbrev pub allSound : Haul → AllStage → Bool
+allSound h (A.Copy i) = haulSound h i
+allSound h A.ReloadRing = haulSound h 0
+allSound h A.Exchange = haulSound h 0
 
-abbrev pub oneSound : OneStage → Bool
-oneSound (E.ExchangeFirst h job) = haulSound h 0
-oneSound (E.ReloadBack h i) = haulSound h i
-oneSound (E.Read h i) = haulSound h i
-oneSound (E.ReloadRing h i job) = haulSound h i
-oneSound (E.Exchange h i job) = haulSound h i
+abbrev pub oneSound : Haul → OneStage → Bool
+oneSound h (E.ExchangeFirst job) = haulSound h 0
+oneSound h (E.ReloadBack i) = haulSound h i
+oneSound h (E.Read i) = haulSound h i
+oneSound h (E.ReloadRing i job) = haulSound h i
+oneSound h (E.Exchange i job) = haulSound h i
+
+abbrev pub takeSound : Haul → TakeStage → Bool
+takeSound h X.ReadFirst = haulSound h 0
+takeSound h (X.All at) = allSound h at
+takeSound h (X.One at) = oneSound h at
 
 abbrev pub sourceSound : SourceStage → Bool
 sourceSound (S.LoadFront kind others) = true
 sourceSound (S.LoadBack kind others f) = true
 sourceSound (S.LoadRing w b) = wantedSound w
-sourceSound (S.ReadFirst h) = haulSound h 0
-sourceSound (S.All at) = allSound at
-sourceSound (S.One at) = oneSound at
+sourceSound (S.Take h at) = takeSound h at
 
 abbrev pub reserveSound : ReserveStage → Bool
-reserveSound (Y.LoadBack w) = true
-reserveSound (Y.LoadFront w b) = true
-reserveSound (Y.Resize w at) = resizeSound at
+reserveSound Y.LoadBack = true
+reserveSound (Y.LoadFront b) = true
+reserveSound (Y.Resize at) = resizeSound at
 
-abbrev pub swapSound : SwapStage → Bool
-swapSound (X.ReadNear h x) = haulSound h x
-swapSound (X.ReadFar h x near) = haulSound h x
-swapSound (X.WriteNear h x near far) = haulSound h x
-swapSound (X.WriteFar h x near) = haulSound h x
+abbrev pub putSound : Haul → PutStage → Bool
+putSound h (W.WriteCopy i job) = haulSound h i
+putSound h (W.WriteOne i job) = haulSound h i
+putSound h (W.Swap x at) = haulSound h x
+putSound h W.StoreBack = haulSound h 0
 
 abbrev pub ownSound : OwnStage → Bool
-ownSound (O.Reserve at) = reserveSound at
+ownSound (O.Reserve w at) = reserveSound at
 ownSound (O.LoadBack w) = wantedSound w
-ownSound (O.WriteCopy h i job) = haulSound h i
-ownSound (O.WriteOne h i job) = haulSound h i
-ownSound (O.Swap at) = swapSound at
-ownSound (O.StoreBack h) = haulSound h 0
+ownSound (O.Put h at) = putSound h at
 
 abbrev pub numbersSound : Stage → Bool
 numbersSound Idle = true

@@ -1,6 +1,6 @@
 // What soundness asks of what a thread remembers.
 ghost use mathlib.Core.Path.{_≡_};
-ghost use Rattle.sound.specs.Sound.{namedSound, resizeSound, pushSound, popSound, wantedSound, haulSound, allSound, oneSound, sourceSound, reserveSound, swapSound, ownSound, numbersSound, stageSound};
+ghost use Rattle.sound.specs.Sound.{namedSound, resizeSound, pushSound, popSound, wantedSound, haulSound, allSound, oneSound, takeSound, sourceSound, reserveSound, putSound, ownSound, numbersSound, stageSound};
 use crate::kept::kept_sound;
 use core::kept::ring_kept;
 use core::stage::AllStage;
@@ -9,11 +9,12 @@ use core::stage::OneStage;
 use core::stage::OwnStage;
 use core::stage::PopStage;
 use core::stage::PushStage;
+use core::stage::PutStage;
 use core::stage::ReserveStage;
 use core::stage::ResizeStage;
 use core::stage::SourceStage;
 use core::stage::Stage;
-use core::stage::SwapStage;
+use core::stage::TakeStage;
 use core::stage::Wanted;
 use ring::Ring;
 
@@ -82,25 +83,35 @@ fn haul_sound(haul: Haul, counter: u64) -> bool
     (haul.n <= Ring::LARGEST as u64) & (counter <= haul.n)
 }
 
-fn all_sound(at: AllStage) -> bool
-    ensures { λ r. ⌜ r ≡ allSound at ⌝ }
+fn all_sound(haul: Haul, at: AllStage) -> bool
+    ensures { λ r. ⌜ r ≡ allSound haul at ⌝ }
 {
     match at {
-        AllStage::Copy { haul, i } => haul_sound(haul, i),
-        AllStage::ReloadRing { haul } => haul_sound(haul, 0),
-        AllStage::Exchange { haul } => haul_sound(haul, 0),
+        AllStage::Copy { i } => haul_sound(haul, i),
+        AllStage::ReloadRing => haul_sound(haul, 0),
+        AllStage::Exchange => haul_sound(haul, 0),
     }
 }
 
-fn one_sound(at: OneStage) -> bool
-    ensures { λ r. ⌜ r ≡ oneSound at ⌝ }
+fn one_sound(haul: Haul, at: OneStage) -> bool
+    ensures { λ r. ⌜ r ≡ oneSound haul at ⌝ }
 {
     match at {
-        OneStage::ExchangeFirst { haul, job: _ } => haul_sound(haul, 0),
-        OneStage::ReloadBack { haul, i } => haul_sound(haul, i),
-        OneStage::Read { haul, i } => haul_sound(haul, i),
-        OneStage::ReloadRing { haul, i, job: _ } => haul_sound(haul, i),
-        OneStage::Exchange { haul, i, job: _ } => haul_sound(haul, i),
+        OneStage::ExchangeFirst { job: _ } => haul_sound(haul, 0),
+        OneStage::ReloadBack { i } => haul_sound(haul, i),
+        OneStage::Read { i } => haul_sound(haul, i),
+        OneStage::ReloadRing { i, job: _ } => haul_sound(haul, i),
+        OneStage::Exchange { i, job: _ } => haul_sound(haul, i),
+    }
+}
+
+fn take_sound(haul: Haul, at: TakeStage) -> bool
+    ensures { λ r. ⌜ r ≡ takeSound haul at ⌝ }
+{
+    match at {
+        TakeStage::ReadFirst => haul_sound(haul, 0),
+        TakeStage::All(stage) => all_sound(haul, stage),
+        TakeStage::One(stage) => one_sound(haul, stage),
     }
 }
 
@@ -115,9 +126,7 @@ fn source_sound(at: SourceStage) -> bool
             f: _,
         } => true,
         SourceStage::LoadRing { wanted, b: _ } => wanted_sound(wanted),
-        SourceStage::ReadFirst { haul } => haul_sound(haul, 0),
-        SourceStage::All(stage) => all_sound(stage),
-        SourceStage::One(stage) => one_sound(stage),
+        SourceStage::Take(haul, stage) => take_sound(haul, stage),
     }
 }
 
@@ -125,25 +134,20 @@ fn reserve_sound(at: ReserveStage) -> bool
     ensures { λ r. ⌜ r ≡ reserveSound at ⌝ }
 {
     match at {
-        ReserveStage::LoadBack { wanted: _ } => true,
-        ReserveStage::LoadFront { wanted: _, b: _ } => true,
-        ReserveStage::Resize { wanted: _, at } => resize_sound(at),
+        ReserveStage::LoadBack => true,
+        ReserveStage::LoadFront { b: _ } => true,
+        ReserveStage::Resize(stage) => resize_sound(stage),
     }
 }
 
-fn swap_sound(at: SwapStage) -> bool
-    ensures { λ r. ⌜ r ≡ swapSound at ⌝ }
+fn put_sound(haul: Haul, at: PutStage) -> bool
+    ensures { λ r. ⌜ r ≡ putSound haul at ⌝ }
 {
     match at {
-        SwapStage::ReadNear { haul, x } => haul_sound(haul, x),
-        SwapStage::ReadFar { haul, x, near: _ } => haul_sound(haul, x),
-        SwapStage::WriteNear {
-            haul,
-            x,
-            near: _,
-            far: _,
-        } => haul_sound(haul, x),
-        SwapStage::WriteFar { haul, x, near: _ } => haul_sound(haul, x),
+        PutStage::WriteCopy { i, job: _ } => haul_sound(haul, i),
+        PutStage::WriteOne { i, job: _ } => haul_sound(haul, i),
+        PutStage::Swap { x, at: _ } => haul_sound(haul, x),
+        PutStage::StoreBack => haul_sound(haul, 0),
     }
 }
 
@@ -151,12 +155,9 @@ fn own_sound(at: OwnStage) -> bool
     ensures { λ r. ⌜ r ≡ ownSound at ⌝ }
 {
     match at {
-        OwnStage::Reserve(stage) => reserve_sound(stage),
+        OwnStage::Reserve(_, stage) => reserve_sound(stage),
         OwnStage::LoadBack { wanted } => wanted_sound(wanted),
-        OwnStage::WriteCopy { haul, i, job: _ } => haul_sound(haul, i),
-        OwnStage::WriteOne { haul, i, job: _ } => haul_sound(haul, i),
-        OwnStage::Swap(stage) => swap_sound(stage),
-        OwnStage::StoreBack { haul } => haul_sound(haul, 0),
+        OwnStage::Put(haul, stage) => put_sound(haul, stage),
     }
 }
 

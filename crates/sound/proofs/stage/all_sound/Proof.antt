@@ -9,14 +9,14 @@ enum-known-at c = search needs
 haul-sound-requires : tie.Need-haul-sound-requires
 haul-sound-requires c κs = search needs
 
-enum-known-at-2 : tie.Need-enum-known-at-2
-enum-known-at-2 c = search needs
+enum-told : tie.Need-enum-told
+enum-told c = search needs
 
 haul-sound-requires-2 : tie.Need-haul-sound-requires-2
 haul-sound-requires-2 c κs = search needs
 
-enum-known-at-3 : tie.Need-enum-known-at-3
-enum-known-at-3 c = search needs
+enum-told-2 : tie.Need-enum-told-2
+enum-told-2 c = search needs
 
 haul-sound-requires-3 : tie.Need-haul-sound-requires-3
 haul-sound-requires-3 c κs = search needs
@@ -25,10 +25,10 @@ returns : tie.Need-returns
 returns c = rw (c .before .before .at .given .1, c .haul-sound .ensures)
 
 returns-2 : tie.Need-returns-2
-returns-2 c = rw (c .before .before .at2 .given .1, c .haul-sound2 .ensures)
+returns-2 c = rw (c .before .enum-told .given .1, c .haul-sound2 .ensures)
 
 returns-3 : tie.Need-returns-3
-returns-3 c = rw (c .before .before .at3 .given .1, c .haul-sound3 .ensures)
+returns-3 c = rw (c .before .enum-told2 .given .1, c .haul-sound3 .ensures)
 
 pub all-sound-spec : {M : Type 1} → statement M
 all-sound-spec =
@@ -36,9 +36,9 @@ all-sound-spec =
     (tie.spec
     enum-known-at
     haul-sound-requires
-    enum-known-at-2
+    enum-told
     haul-sound-requires-2
-    enum-known-at-3
+    enum-told-2
     haul-sound-requires-3
     returns
     returns-2

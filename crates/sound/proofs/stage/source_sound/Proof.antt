@@ -18,20 +18,8 @@ wanted-sound-requires c κs = search needs
 enum-known-at-2 : tie.Need-enum-known-at-2
 enum-known-at-2 c = search needs
 
-haul-sound-requires : tie.Need-haul-sound-requires
-haul-sound-requires c κs = search needs
-
-enum-known-at-3 : tie.Need-enum-known-at-3
-enum-known-at-3 c = search needs
-
-all-sound-requires : tie.Need-all-sound-requires
-all-sound-requires c κs = search needs
-
-enum-known-at-4 : tie.Need-enum-known-at-4
-enum-known-at-4 c = search needs
-
-one-sound-requires : tie.Need-one-sound-requires
-one-sound-requires c κs = search needs
+take-sound-requires : tie.Need-take-sound-requires
+take-sound-requires c κs = search needs
 
 returns : tie.Need-returns
 returns c = search needs
@@ -43,13 +31,7 @@ returns-3 : tie.Need-returns-3
 returns-3 c = rw (c .before .before .at .given .1, c .wanted-sound .ensures)
 
 returns-4 : tie.Need-returns-4
-returns-4 c = rw (c .before .before .at2 .given .1, c .haul-sound .ensures)
-
-returns-5 : tie.Need-returns-5
-returns-5 c = search needs
-
-returns-6 : tie.Need-returns-6
-returns-6 c = search needs
+returns-4 c = rw (c .before .before .at2 .given .1, c .take-sound .ensures)
 
 pub source-sound-spec : {M : Type 1} → statement M
 source-sound-spec =
@@ -60,14 +42,8 @@ source-sound-spec =
     enum-known-at
     wanted-sound-requires
     enum-known-at-2
-    haul-sound-requires
-    enum-known-at-3
-    all-sound-requires
-    enum-known-at-4
-    one-sound-requires
+    take-sound-requires
     returns
     returns-2
     returns-3
-    returns-4
-    returns-5
-    returns-6)
+    returns-4)

@@ -1,7 +1,7 @@
--- Each arm of `swap_sound` is its clause of `swapSound`, by what its calls ensure.
+-- Each arm of `put_sound` is its clause of `putSound`, by what its calls ensure.
 use borrow.Author.Needs.{needs}
-use Rattle.sound.proofs.stage.swap_sound.Statement.{statement}
-use Rattle.sound.proofs.stage.swap_sound.Tie as tie
+use Rattle.sound.proofs.stage.put_sound.Statement.{statement}
+use Rattle.sound.proofs.stage.put_sound.Tie as tie
 
 enum-known-at : tie.Need-enum-known-at
 enum-known-at c = search needs
@@ -21,8 +21,8 @@ enum-known-at-3 c = search needs
 haul-sound-requires-3 : tie.Need-haul-sound-requires-3
 haul-sound-requires-3 c κs = search needs
 
-enum-known-at-4 : tie.Need-enum-known-at-4
-enum-known-at-4 c = search needs
+enum-told : tie.Need-enum-told
+enum-told c = search needs
 
 haul-sound-requires-4 : tie.Need-haul-sound-requires-4
 haul-sound-requires-4 c κs = search needs
@@ -37,10 +37,10 @@ returns-3 : tie.Need-returns-3
 returns-3 c = rw (c .before .before .at3 .given .1, c .haul-sound3 .ensures)
 
 returns-4 : tie.Need-returns-4
-returns-4 c = rw (c .before .before .at4 .given .1, c .haul-sound4 .ensures)
+returns-4 c = rw (c .before .enum-told .given .1, c .haul-sound4 .ensures)
 
-pub swap-sound-spec : {M : Type 1} → statement M
-swap-sound-spec =
+pub put-sound-spec : {M : Type 1} → statement M
+put-sound-spec =
     tie.close
     (tie.spec
     enum-known-at
@@ -49,7 +49,7 @@ swap-sound-spec =
     haul-sound-requires-2
     enum-known-at-3
     haul-sound-requires-3
-    enum-known-at-4
+    enum-told
     haul-sound-requires-4
     returns
     returns-2
