@@ -25,21 +25,21 @@ use Rattle.op_batch.specs.declared.BatchOut.the-variants.{Own, Ended}
 use Rattle.op_batch.specs.Haul.{reserveAt}
 
 abbrev pub growing : Wanted → Queue → Capacity → BatchOut
-growing w q (C.Of c) = reserveAt q (Resize w (Z.LoadBack c))
+growing w q (C.Of c) = reserveAt q w (Resize (Z.LoadBack c))
 growing w q C.TooLarge = Ended q (GaveUp TooLarge)
 
 -- what a batch does with a step of its resize
 abbrev pub grown : Wanted → Queue → Resized → BatchOut
-grown w q (R.Stage z) = reserveAt q (Resize w z)
+grown w q (R.Stage z) = reserveAt q w (Resize z)
 grown w q R.NoRing = Ended q (GaveUp NoRing)
 grown w q (R.Done r) = Own r (O.LoadBack w)
 
-abbrev pub reserveOf : ReserveStage → Queue → Claim → List ℕ → BatchOut × List ℕ
-reserveOf (LoadBack w) q g cells = (reserveAt q (LoadFront w (q .back)), cells)
-reserveOf (LoadFront w b) q g cells = (
+abbrev pub reserveOf : Wanted → ReserveStage → Queue → Claim → List ℕ → BatchOut × List ℕ
+reserveOf w LoadBack q g cells = (reserveAt q w (LoadFront (q .back)), cells)
+reserveOf w (LoadFront b) q g cells = (
   pick (leb (lengthOf b (q .front) + w .n) (q .ring .capacity))
       (Own q (O.LoadBack w))
       (growing w q (holdingOf (lengthOf b (q .front) + w .n))),
   cells,
 )
-reserveOf (Resize w z) q g cells = (grown w q (resizeOf z q g cells .resized), resizeOf z q g cells .cells)
+reserveOf w (Resize z) q g cells = (grown w q (resizeOf z q g cells .resized), resizeOf z q g cells .cells)

@@ -23,10 +23,8 @@ fn growing(wanted: Wanted, q: Queue, to: Capacity) -> BatchOut
     match to {
         Capacity::Of(capacity) => reserve_at(
             q,
-            ReserveStage::Resize {
-                wanted,
-                at: ResizeStage::LoadBack { capacity },
-            },
+            wanted,
+            ReserveStage::Resize(ResizeStage::LoadBack { capacity }),
         ),
         Capacity::TooLarge => BatchOut::Ended(q, Answer::GaveUp(Shortage::TooLarge)),
     }
@@ -37,27 +35,27 @@ fn grown(wanted: Wanted, q: Queue, resized: Resized) -> BatchOut
     ensures { λ r. ⌜ r ≡ grownOf wanted q resized ⌝ }
 {
     match resized {
-        Resized::Stage(at) => reserve_at(q, ReserveStage::Resize { wanted, at }),
+        Resized::Stage(at) => reserve_at(q, wanted, ReserveStage::Resize(at)),
         Resized::NoRing => BatchOut::Ended(q, Answer::GaveUp(Shortage::NoRing)),
         Resized::Done(r) => BatchOut::Own(r, OwnStage::LoadBack { wanted }),
     }
 }
 
-pub fn reserve_step(at: ReserveStage, q: Queue, claim: Claim, pool: &mut [u64]) -> BatchOut
-    ensures { λ r. ⌜ (r, now (pool .exit)) ≡ reserveOf at q claim (now (pool .entry)) ⌝ }
+pub fn reserve_step(wanted: Wanted, at: ReserveStage, q: Queue, claim: Claim, pool: &mut [u64]) -> BatchOut
+    ensures { λ r. ⌜ (r, now (pool .exit)) ≡ reserveOf wanted at q claim (now (pool .entry)) ⌝ }
 {
     match at {
-        ReserveStage::LoadBack { wanted } => {
+        ReserveStage::LoadBack => {
             let b = q.back;
-            reserve_at(q, ReserveStage::LoadFront { wanted, b })
+            reserve_at(q, wanted, ReserveStage::LoadFront { b })
         }
-        ReserveStage::LoadFront { wanted, b } => {
+        ReserveStage::LoadFront { b } => {
             let length = b.length(q.front);
             if Ring::holds(q.ring.capacity, length, wanted.n) {
                 return BatchOut::Own(q, OwnStage::LoadBack { wanted });
             }
             growing(wanted, q, Ring::holding(length, wanted.n))
         }
-        ReserveStage::Resize { wanted, at } => grown(wanted, q, resize_step(at, q, claim, pool)),
+        ReserveStage::Resize(stage) => grown(wanted, q, resize_step(stage, q, claim, pool)),
     }
 }

@@ -5,11 +5,12 @@ use cells::read;
 use cells::write;
 use core::queue::Queue;
 use core::stage::Haul;
-use core::stage::OwnStage;
+use core::stage::PutStage;
 use core::stage::SwapStage;
 use index::Index;
 use op_batch::mirror;
-use op_batch::swapped;
+use op_batch::swapping;
+use op_batch::turn_after;
 
 // The two cells of a swap: the one nearer the front, and the other.
 fn near_cell(haul: Haul, x: u64) -> Index
@@ -25,25 +26,34 @@ fn far_cell(haul: Haul, x: u64) -> Index
 }
 
 // The queue stays as it is.
-pub fn swap_step(at: SwapStage, q: Queue, pool: &mut [u64]) -> OwnStage
-    ensures { λ r. ⌜ (r, now (pool .exit)) ≡ swapOf at q (now (pool .entry)) ⌝ }
+pub fn swap_step(haul: Haul, x: u64, at: SwapStage, q: Queue, pool: &mut [u64]) -> PutStage
+    ensures { λ r. ⌜ (r, now (pool .exit)) ≡ swapOf haul x at q (now (pool .entry)) ⌝ }
 {
     match at {
-        SwapStage::ReadNear { haul, x } => {
+        SwapStage::ReadNear => {
             let near = read(pool, q.ring, near_cell(haul, x));
-            OwnStage::Swap(SwapStage::ReadFar { haul, x, near })
+            PutStage::Swap {
+                x,
+                at: SwapStage::ReadFar { near },
+            }
         }
-        SwapStage::ReadFar { haul, x, near } => {
+        SwapStage::ReadFar { near } => {
             let far = read(pool, q.ring, far_cell(haul, x));
-            OwnStage::Swap(SwapStage::WriteNear { haul, x, near, far })
+            PutStage::Swap {
+                x,
+                at: SwapStage::WriteNear { near, far },
+            }
         }
-        SwapStage::WriteNear { haul, x, near, far } => {
+        SwapStage::WriteNear { near, far } => {
             write(pool, q.ring, near_cell(haul, x), far);
-            OwnStage::Swap(SwapStage::WriteFar { haul, x, near })
+            PutStage::Swap {
+                x,
+                at: SwapStage::WriteFar { near },
+            }
         }
-        SwapStage::WriteFar { haul, x, near } => {
+        SwapStage::WriteFar { near } => {
             write(pool, q.ring, far_cell(haul, x), near);
-            swapped(haul, x)
+            swapping(turn_after(haul.n / 2, x))
         }
     }
 }

@@ -8,20 +8,22 @@ use Rattle.index.specs.Index.{sameB, plusOf}
 use Rattle.cells.specs.Cells.{readOf}
 use Rattle.steal.specs.declared.Steal.the-variants.{Retry}
 use Rattle.core.specs.declared.queue.Queue.{Queue}
+use Rattle.core.specs.declared.stage.Haul.{Haul}
 use Rattle.core.specs.declared.stage.AllStage.{AllStage}
 use Rattle.core.specs.declared.stage.AllStage.the-variants.{Copy, ReloadRing, Exchange}
-use Rattle.core.specs.declared.stage.OwnStage.the-variants.{WriteCopy, StoreBack}
+use Rattle.core.specs.declared.stage.TakeStage.the-variants.{All}
+use Rattle.core.specs.declared.stage.PutStage.the-variants.{WriteCopy, StoreBack}
 use Rattle.core.specs.declared.answer.Answer.the-variants.{Stolen}
 use Rattle.core.specs.Out.{withFront}
 use Rattle.op_batch.specs.declared.BatchOut.{BatchOut}
-use Rattle.op_batch.specs.declared.BatchOut.the-variants.{Own, Ended}
-use Rattle.op_batch.specs.Haul.{allAt, firstOf}
+use Rattle.op_batch.specs.declared.BatchOut.the-variants.{Ended}
+use Rattle.op_batch.specs.Haul.{takeAt, putAt, firstOf}
 
-abbrev pub allStepOf : AllStage → Queue → List ℕ → BatchOut
-allStepOf (Copy h i) q cells = Own q (WriteCopy h i (readOf cells (h .ring) (plusOf (firstOf (h .«in_hand») (h .f)) i)))
-allStepOf (ReloadRing h) q cells =
-    pick (eqb (q .ring .number .0) (h .ring .number .0)) (allAt q (Exchange h)) (Ended q (Stolen Retry))
-allStepOf (Exchange h) q cells =
+abbrev pub allStepOf : Haul → AllStage → Queue → List ℕ → BatchOut
+allStepOf h (Copy i) q cells = putAt q h (WriteCopy i (readOf cells (h .ring) (plusOf (firstOf (h .«in_hand») (h .f)) i)))
+allStepOf h ReloadRing q cells =
+    pick (eqb (q .ring .number .0) (h .ring .number .0)) (takeAt q h (All Exchange)) (Ended q (Stolen Retry))
+allStepOf h Exchange q cells =
     pick (sameB (q .front) (h .f))
-    (Own (withFront q (plusOf (firstOf (h .«in_hand») (h .f)) (h .n))) (StoreBack h))
+    (putAt (withFront q (plusOf (firstOf (h .«in_hand») (h .f)) (h .n))) h StoreBack)
     (Ended q (Stolen Retry))

@@ -14,35 +14,40 @@ use Rattle.core.specs.declared.stage.BatchKind.{BatchKind}
 use Rattle.core.specs.declared.stage.BatchKind.the-variants as K
 use Rattle.core.specs.declared.stage.Haul.{Haul}
 use Rattle.core.specs.declared.stage.OneStage.the-variants as E
+use Rattle.core.specs.declared.stage.TakeStage.{TakeStage}
+use Rattle.core.specs.declared.stage.TakeStage.the-variants.{ReadFirst, All, One}
 use Rattle.core.specs.declared.stage.SourceStage.{SourceStage}
-use Rattle.core.specs.declared.stage.SourceStage.the-variants.{LoadFront, LoadBack, LoadRing, ReadFirst, All, One}
+use Rattle.core.specs.declared.stage.SourceStage.the-variants.{LoadFront, LoadBack, LoadRing, Take}
 use Rattle.core.specs.declared.answer.Answer.the-variants.{Stolen}
 use Rattle.op_batch.specs.declared.BatchOut.{BatchOut}
 use Rattle.op_batch.specs.declared.BatchOut.the-variants.{Source, Own, Ended}
-use Rattle.op_batch.specs.Haul.{allAt, oneAt, wantedOf, reserving, hauling, withJob, copying, stopped}
+use Rattle.op_batch.specs.Haul.{takeAt, wantedOf, reserving, hauling, withJob, turnOf, copying, stopped}
 use Rattle.op_batch_source.specs.All.{allStepOf}
 use Rattle.op_batch_source.specs.One.{oneStepOf}
 
 -- the ring is held: a batch and pop reads its first job; a batch takes by the source's flavour
 abbrev pub taking : Flavor → Flavor → Haul → Queue → BatchOut
-taking Fifo own h q = allAt q (copying h 0)
-taking Lifo own h q = pick (leb (h .n) 0) (stopped own h 0 q) (oneAt q (E.Read h 0))
+taking Fifo own h q = takeAt q h (copying (turnOf (h .n) 0))
+taking Lifo own h q = pick (leb (h .n) 0) (stopped own h 0 q) (takeAt q h (One (E.Read 0)))
 
 abbrev pub held : BatchKind → Flavor → Haul → Queue → BatchOut
 held K.Batch own h q = taking (q .flavor) own h q
-held K.BatchAndPop own h q = Source q (ReadFirst h)
+held K.BatchAndPop own h q = takeAt q h ReadFirst
 
-abbrev pub firstRead : Flavor → Haul → ℕ → SourceStage
-firstRead Fifo h job = All (copying (withJob h job) 0)
-firstRead Lifo h job = One (E.ExchangeFirst h job)
+abbrev pub firstRead : Flavor → Haul → ℕ → Queue → BatchOut
+firstRead Fifo h job q = takeAt q (withJob h job) (copying (turnOf (h .n) 0))
+firstRead Lifo h job q = takeAt q h (One (E.ExchangeFirst job))
 
 -- own is the flavour of the thread's own queue
+abbrev pub takeOf : Flavor → Haul → TakeStage → Queue → List ℕ → BatchOut
+takeOf own h ReadFirst q cells = firstRead (q .flavor) h (readOf cells (h .ring) (h .f)) q
+takeOf own h (All at) q cells = allStepOf h at q cells
+takeOf own h (One at) q cells = oneStepOf own h at q cells
+
 abbrev pub sourceOf : Flavor → SourceStage → Queue → List ℕ → BatchOut
 sourceOf own (LoadFront kind others) q cells = Source q (LoadBack kind others (q .front))
 sourceOf own (LoadBack kind others f) q cells =
     pick (emptyB (q .back) f) (Ended q (Stolen Empty))
     (Own q (reserving (record { kind = kind; f = f; n = wantedOf kind (lengthOf (q .back) f) others })))
 sourceOf own (LoadRing w b) q cells = held (w .kind) own (hauling (q .ring) w b) q
-sourceOf own (ReadFirst h) q cells = Source q (firstRead (q .flavor) h (readOf cells (h .ring) (h .f)))
-sourceOf own (All at) q cells = allStepOf at q cells
-sourceOf own (One at) q cells = oneStepOf own at q cells
+sourceOf own (Take h at) q cells = takeOf own h at q cells

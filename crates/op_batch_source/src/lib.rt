@@ -1,7 +1,7 @@
 // The steps of a batch on its source.
 ghost use mathlib.Core.Path.{_≡_};
 ghost use Rattle.op_batch.specs.Haul.{hauling as haulingOf};
-ghost use Rattle.op_batch_source.specs.Source.{taking as takingOf, held as heldOf, firstRead, sourceOf};
+ghost use Rattle.op_batch_source.specs.Source.{taking as takingOf, held as heldOf, firstRead, takeOf, sourceOf};
 use crate::all::all_step;
 use crate::one::one_step;
 use cells::read;
@@ -13,14 +13,15 @@ use core::stage::Haul;
 use core::stage::InHand;
 use core::stage::OneStage;
 use core::stage::SourceStage;
+use core::stage::TakeStage;
 use core::stage::Wanted;
 use index::Index;
 use op_batch::BatchOut;
-use op_batch::all_at;
 use op_batch::copying;
-use op_batch::one_at;
 use op_batch::reserving;
 use op_batch::stopped;
+use op_batch::take_at;
+use op_batch::turn;
 use op_batch::wanted;
 use op_batch::with_job;
 use ring::Ring;
@@ -48,12 +49,12 @@ fn taking(flavor: Flavor, own: Flavor, haul: Haul, q: Queue) -> BatchOut
     ensures { λ r. ⌜ r ≡ takingOf flavor own haul q ⌝ }
 {
     match flavor {
-        Flavor::Fifo => all_at(q, copying(haul, 0)),
+        Flavor::Fifo => take_at(q, haul, copying(turn(haul.n, 0))),
         Flavor::Lifo => {
             if haul.n <= 0 {
                 return stopped(own, haul, 0, q);
             }
-            one_at(q, OneStage::Read { haul, i: 0 })
+            take_at(q, haul, TakeStage::One(OneStage::Read { i: 0 }))
         }
     }
 }
@@ -66,17 +67,32 @@ fn held(kind: BatchKind, own: Flavor, haul: Haul, q: Queue) -> BatchOut
             let flavor = q.flavor;
             taking(flavor, own, haul, q)
         }
-        BatchKind::BatchAndPop => BatchOut::Source(q, SourceStage::ReadFirst { haul }),
+        BatchKind::BatchAndPop => take_at(q, haul, TakeStage::ReadFirst),
     }
 }
 
 // A batch and pop has read its first job.
-fn first_read(flavor: Flavor, haul: Haul, job: u64) -> SourceStage
-    ensures { λ r. ⌜ r ≡ firstRead flavor haul job ⌝ }
+fn first_read(flavor: Flavor, haul: Haul, job: u64, q: Queue) -> BatchOut
+    ensures { λ r. ⌜ r ≡ firstRead flavor haul job q ⌝ }
 {
     match flavor {
-        Flavor::Fifo => SourceStage::All(copying(with_job(haul, job), 0)),
-        Flavor::Lifo => SourceStage::One(OneStage::ExchangeFirst { haul, job }),
+        Flavor::Fifo => take_at(q, with_job(haul, job), copying(turn(haul.n, 0))),
+        Flavor::Lifo => take_at(q, haul, TakeStage::One(OneStage::ExchangeFirst { job })),
+    }
+}
+
+// A step while the source's ring is held.
+pub fn take_step(own: Flavor, haul: Haul, at: TakeStage, q: Queue, pool: &[u64]) -> BatchOut
+    ensures { λ r. ⌜ r ≡ takeOf own haul at q (now (pool .entry)) ⌝ }
+{
+    match at {
+        TakeStage::ReadFirst => {
+            let job = read(pool, haul.ring, haul.f);
+            let flavor = q.flavor;
+            first_read(flavor, haul, job, q)
+        }
+        TakeStage::All(stage) => all_step(haul, stage, q, pool),
+        TakeStage::One(stage) => one_step(own, haul, stage, q, pool),
     }
 }
 
@@ -100,12 +116,6 @@ pub fn source_step(own: Flavor, at: SourceStage, q: Queue, pool: &[u64]) -> Batc
             let kind = wanted.kind;
             held(kind, own, hauling(q.ring, wanted, b), q)
         }
-        SourceStage::ReadFirst { haul } => {
-            let job = read(pool, haul.ring, haul.f);
-            let flavor = q.flavor;
-            BatchOut::Source(q, first_read(flavor, haul, job))
-        }
-        SourceStage::All(stage) => all_step(stage, q, pool),
-        SourceStage::One(stage) => one_step(own, stage, q, pool),
+        SourceStage::Take(haul, stage) => take_step(own, haul, stage, q, pool),
     }
 }
