@@ -1,4 +1,4 @@
--- Each arm of `source_step` is its clause of `sourceOf`, each test the definition's own, by what its calls ensure.
+-- Each arm of `source_step` is its clause of the definition, by what its calls ensure.
 use borrow.Author.Needs.{needs}
 use Rattle.op_batch_source.proofs.source_step.Statement.{statement}
 use Rattle.op_batch_source.proofs.source_step.Tie as tie
@@ -36,23 +36,8 @@ held-requires c κs = search needs
 enum-known-at-4 : tie.Need-enum-known-at-4
 enum-known-at-4 c = search needs
 
-read-requires : tie.Need-read-requires
-read-requires c κs = search needs
-
-first-read-requires : tie.Need-first-read-requires
-first-read-requires c κs = search needs
-
-enum-known-at-5 : tie.Need-enum-known-at-5
-enum-known-at-5 c = search needs
-
-all-step-requires : tie.Need-all-step-requires
-all-step-requires c κs = search needs
-
-enum-known-at-6 : tie.Need-enum-known-at-6
-enum-known-at-6 c = search needs
-
-one-step-requires : tie.Need-one-step-requires
-one-step-requires c κs = search needs
+take-step-requires : tie.Need-take-step-requires
+take-step-requires c κs = search needs
 
 returns-2 : tie.Need-returns-2
 returns-2 c = rw (c .before .before .at .given .1)
@@ -64,13 +49,7 @@ returns-4 : tie.Need-returns-4
 returns-4 c = rw (c .before .before .before .at3 .given .1, c .held .ensures, c .before .hauling .ensures)
 
 returns-5 : tie.Need-returns-5
-returns-5 c = rw (c .before .before .before .at4 .given .1, c .first-read .ensures, c .before .read .ensures)
-
-returns-6 : tie.Need-returns-6
-returns-6 c = rw (c .before .before .at5 .given .1, c .all-step .ensures)
-
-returns-7 : tie.Need-returns-7
-returns-7 c = rw (c .before .before .at6 .given .1, c .one-step .ensures)
+returns-5 c = rw (c .before .before .at4 .given .1, c .take-step .ensures)
 
 pub source-step-spec : {M : Type 1} → statement M
 source-step-spec =
@@ -87,15 +66,8 @@ source-step-spec =
     hauling-requires
     held-requires
     enum-known-at-4
-    read-requires
-    first-read-requires
-    enum-known-at-5
-    all-step-requires
-    enum-known-at-6
-    one-step-requires
+    take-step-requires
     returns-2
     returns-3
     returns-4
-    returns-5
-    returns-6
-    returns-7)
+    returns-5)

@@ -1,4 +1,4 @@
--- Each arm of `growing` is its clause of `growingOf`, by what its calls ensure.
+-- Each arm of `growing` is its clause of the definition, by what its calls ensure.
 use borrow.Author.Needs.{needs}
 use Rattle.op_batch_own.proofs.reserve.growing.Statement.{statement}
 use Rattle.op_batch_own.proofs.reserve.growing.Tie as tie

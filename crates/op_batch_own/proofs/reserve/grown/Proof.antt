@@ -1,4 +1,4 @@
--- Each arm of `grown` is its clause of `grownOf`, by what its calls ensure.
+-- Each arm of `grown` is its clause of the definition, by what its calls ensure.
 use borrow.Author.Needs.{needs}
 use Rattle.op_batch_own.proofs.reserve.grown.Statement.{statement}
 use Rattle.op_batch_own.proofs.reserve.grown.Tie as tie

@@ -1,16 +1,16 @@
--- Each arm of `reserve_step` is its clause of `reserveOf`, each test the definition's own, by what its calls ensure.
+-- Each arm of `reserve_step` is its clause of the definition, by what its calls ensure.
 use borrow.Author.Needs.{needs}
 use Rattle.op_batch_own.proofs.reserve.reserve_step.Statement.{statement}
 use Rattle.op_batch_own.proofs.reserve.reserve_step.Tie as tie
 
-enum-known-at : tie.Need-enum-known-at
-enum-known-at c = search needs
+enum-told : tie.Need-enum-told
+enum-told c = search needs
 
 reserve-at-requires : tie.Need-reserve-at-requires
 reserve-at-requires c κs = search needs
 
-enum-known-at-2 : tie.Need-enum-known-at-2
-enum-known-at-2 c = search needs
+enum-known-at : tie.Need-enum-known-at
+enum-known-at c = search needs
 
 length-requires : tie.Need-length-requires
 length-requires c κs = search needs
@@ -19,7 +19,7 @@ holds-requires : tie.Need-holds-requires
 holds-requires c κs = search needs
 
 returns : tie.Need-returns
-returns c = rw (c .before .before .before .before .at2 .given .1, ← c .before .before .length .ensures, ← c .before .holds .ensures, c .if1 .taken)
+returns c = rw (c .before .before .before .before .at .given .1, ← c .before .before .length .ensures, ← c .before .holds .ensures, c .if1 .taken)
 
 holding-requires : tie.Need-holding-requires
 holding-requires c κs = search needs
@@ -27,8 +27,8 @@ holding-requires c κs = search needs
 growing-requires : tie.Need-growing-requires
 growing-requires c κs = search needs
 
-enum-known-at-3 : tie.Need-enum-known-at-3
-enum-known-at-3 c = search needs
+enum-known-at-2 : tie.Need-enum-known-at-2
+enum-known-at-2 c = search needs
 
 resize-step-requires : tie.Need-resize-step-requires
 resize-step-requires c κs = search needs
@@ -37,30 +37,30 @@ grown-requires : tie.Need-grown-requires
 grown-requires c κs = search needs
 
 returns-2 : tie.Need-returns-2
-returns-2 c = rw (c .before .before .before .at .given .1, c .reserve-at .ensures)
+returns-2 c = rw (c .before .before .enum-told .given .1, c .reserve-at .ensures)
 
 returns-3 : tie.Need-returns-3
-returns-3 c = rw (c .before .before .before .before .before .before .at2 .given .1, c .growing .ensures, c .before .holding .ensures, ← c .before .before .before .before .length .ensures, ← c .before .before .before .holds .ensures, c .before .before .if1 .left)
+returns-3 c = rw (c .before .before .before .before .before .before .at .given .1, c .growing .ensures, c .before .holding .ensures, ← c .before .before .before .before .length .ensures, ← c .before .before .before .holds .ensures, c .before .before .if1 .left)
 
 same-length : tie.Need-same-length
 same-length c = search needs
 
 returns-4 : tie.Need-returns-4
-returns-4 c = rw (c .before .before .before .before .before .before .at3 .given .1, c .grown .ensures, ← c .before .before .before .resize-step .ensures)
+returns-4 c = rw (c .before .before .before .before .before .before .at2 .given .1, c .grown .ensures, ← c .before .before .before .resize-step .ensures)
 
 pub reserve-step-spec : {M : Type 1} → statement M
 reserve-step-spec =
     tie.close
     (tie.spec
-    enum-known-at
+    enum-told
     reserve-at-requires
-    enum-known-at-2
+    enum-known-at
     length-requires
     holds-requires
     returns
     holding-requires
     growing-requires
-    enum-known-at-3
+    enum-known-at-2
     resize-step-requires
     grown-requires
     returns-2

@@ -1,6 +1,6 @@
 -- Each arm of `all_step` is its clause of `allStepOf`, each test the definition's own, by what its calls ensure.
-use borrow.Author.Needs.{needs}
 use borrow.Author.Tests.{eq-eqb, ne-eqb}
+use borrow.Author.Needs.{needs}
 use Rattle.op_batch_source.proofs.all.all_step.Statement.{statement}
 use Rattle.op_batch_source.proofs.all.all_step.Tie as tie
 
@@ -16,17 +16,20 @@ plus-requires c κs = search needs
 read-requires : tie.Need-read-requires
 read-requires c κs = search needs
 
-enum-known-at-2 : tie.Need-enum-known-at-2
-enum-known-at-2 c = search needs
+put-at-requires : tie.Need-put-at-requires
+put-at-requires c κs = search needs
 
-all-at-requires : tie.Need-all-at-requires
-all-at-requires c κs = search needs
+enum-told : tie.Need-enum-told
+enum-told c = search needs
+
+take-at-requires : tie.Need-take-at-requires
+take-at-requires c κs = search needs
 
 returns : tie.Need-returns
-returns c = rw (c .before .before .before .before .before .at2 .given .1, c .all-at .ensures, eq-eqb _ _ (c .before .if1 .taken))
+returns c = rw (c .before .before .before .before .enum-told .given .1, c .take-at .ensures, eq-eqb _ _ (c .before .if1 .taken))
 
-enum-known-at-3 : tie.Need-enum-known-at-3
-enum-known-at-3 c = search needs
+enum-told-2 : tie.Need-enum-told-2
+enum-told-2 c = search needs
 
 is-same-requires : tie.Need-is-same-requires
 is-same-requires c κs = search needs
@@ -37,17 +40,20 @@ first-requires-2 c κs = search needs
 plus-requires-2 : tie.Need-plus-requires-2
 plus-requires-2 c κs = search needs
 
+put-at-requires-2 : tie.Need-put-at-requires-2
+put-at-requires-2 c κs = search needs
+
 returns-2 : tie.Need-returns-2
-returns-2 c = rw (c .before .before .before .before .before .at3 .given .1, c .plus2 .ensures, c .before .first2 .ensures, ← c .before .before .before .is-same .ensures, c .before .before .if2 .taken)
+returns-2 c = rw (c .before .before .before .before .before .enum-told2 .given .1, c .put-at2 .ensures, c .before .plus2 .ensures, c .before .before .first2 .ensures, ← c .before .before .before .before .is-same .ensures, c .before .before .before .if2 .taken)
 
 returns-3 : tie.Need-returns-3
-returns-3 c = rw (c .before .before .before .before .at .given .1, c .read .ensures, c .before .plus .ensures, c .before .before .first .ensures)
+returns-3 c = rw (c .before .before .before .before .before .at .given .1, c .put-at .ensures, c .before .read .ensures, c .before .before .plus .ensures, c .before .before .before .first .ensures)
 
 returns-4 : tie.Need-returns-4
-returns-4 c = rw (c .before .before .before .before .at2 .given .1, ne-eqb _ _ (c .if1 .left))
+returns-4 c = rw (c .before .before .before .enum-told .given .1, ne-eqb _ _ (c .if1 .left))
 
 returns-5 : tie.Need-returns-5
-returns-5 c = rw (c .before .before .before .at3 .given .1, ← c .before .is-same .ensures, c .if2 .left)
+returns-5 c = rw (c .before .before .enum-told2 .given .1, ← c .before .is-same .ensures, c .if2 .left)
 
 pub all-step-spec : {M : Type 1} → statement M
 all-step-spec =
@@ -57,13 +63,15 @@ all-step-spec =
     first-requires
     plus-requires
     read-requires
-    enum-known-at-2
-    all-at-requires
+    put-at-requires
+    enum-told
+    take-at-requires
     returns
-    enum-known-at-3
+    enum-told-2
     is-same-requires
     first-requires-2
     plus-requires-2
+    put-at-requires-2
     returns-2
     returns-3
     returns-4

@@ -1,6 +1,6 @@
 -- Each arm of `one_step` is its clause of `oneStepOf`, each test the definition's own, by what its calls ensure.
-use borrow.Author.Needs.{needs}
 use borrow.Author.Tests.{eq-eqb, ne-eqb}
+use borrow.Author.Needs.{needs}
 use Rattle.op_batch_source.proofs.one.one_step.Statement.{statement}
 use Rattle.op_batch_source.proofs.one.one_step.Tie as tie
 
@@ -16,11 +16,14 @@ plus-requires c κs = search needs
 onward-requires : tie.Need-onward-requires
 onward-requires c κs = search needs
 
+turn-requires : tie.Need-turn-requires
+turn-requires c κs = search needs
+
 turning-requires : tie.Need-turning-requires
 turning-requires c κs = search needs
 
 returns : tie.Need-returns
-returns c = rw (c .before .before .before .before .before .before .at .given .1, c .turning .ensures, c .before .onward .ensures, c .before .before .plus .ensures, ← c .before .before .before .before .is-same .ensures, c .before .before .before .if1 .taken)
+returns c = rw (c .before .before .before .before .before .before .before .at .given .1, c .turning .ensures, c .before .turn .ensures, c .before .before .onward .ensures, c .before .before .before .plus .ensures, ← c .before .before .before .before .before .is-same .ensures, c .before .before .before .before .if1 .taken)
 
 enum-known-at-2 : tie.Need-enum-known-at-2
 enum-known-at-2 c = search needs
@@ -34,8 +37,8 @@ stopped-requires c κs = search needs
 returns-2 : tie.Need-returns-2
 returns-2 c = rw (c .before .before .before .before .at2 .given .1, c .stopped .ensures, ← c .before .before .is-empty .ensures, c .before .if2 .taken)
 
-one-at-requires : tie.Need-one-at-requires
-one-at-requires c κs = search needs
+take-at-requires : tie.Need-take-at-requires
+take-at-requires c κs = search needs
 
 enum-known-at-3 : tie.Need-enum-known-at-3
 enum-known-at-3 c = search needs
@@ -43,17 +46,17 @@ enum-known-at-3 c = search needs
 read-requires : tie.Need-read-requires
 read-requires c κs = search needs
 
-one-at-requires-2 : tie.Need-one-at-requires-2
-one-at-requires-2 c κs = search needs
+take-at-requires-2 : tie.Need-take-at-requires-2
+take-at-requires-2 c κs = search needs
 
 enum-known-at-4 : tie.Need-enum-known-at-4
 enum-known-at-4 c = search needs
 
-one-at-requires-3 : tie.Need-one-at-requires-3
-one-at-requires-3 c κs = search needs
+take-at-requires-3 : tie.Need-take-at-requires-3
+take-at-requires-3 c κs = search needs
 
 returns-3 : tie.Need-returns-3
-returns-3 c = rw (c .before .before .before .before .before .at4 .given .1, c .one-at3 .ensures, eq-eqb _ _ (c .before .if3 .taken))
+returns-3 c = rw (c .before .before .before .before .before .at4 .given .1, c .take-at3 .ensures, eq-eqb _ _ (c .before .if3 .taken))
 
 stopped-requires-2 : tie.Need-stopped-requires-2
 stopped-requires-2 c κs = search needs
@@ -76,8 +79,11 @@ onward-requires-2 c κs = search needs
 to-write-requires : tie.Need-to-write-requires
 to-write-requires c κs = search needs
 
+put-at-requires : tie.Need-put-at-requires
+put-at-requires c κs = search needs
+
 returns-4 : tie.Need-returns-4
-returns-4 c = rw (c .before .before .before .before .before .before .before .at5 .given .1, c .to-write .ensures, c .before .onward2 .ensures, c .before .before .next-in-hand .ensures, c .before .before .before .plus2 .ensures, ← c .before .before .before .before .before .is-same2 .ensures, c .before .before .before .before .if4 .taken)
+returns-4 c = rw (c .before .before .before .before .before .before .before .before .at5 .given .1, c .put-at .ensures, c .before .to-write .ensures, c .before .before .onward2 .ensures, c .before .before .before .next-in-hand .ensures, c .before .before .before .before .plus2 .ensures, ← c .before .before .before .before .before .before .is-same2 .ensures, c .before .before .before .before .before .if4 .taken)
 
 stopped-requires-3 : tie.Need-stopped-requires-3
 stopped-requires-3 c κs = search needs
@@ -86,10 +92,10 @@ returns-5 : tie.Need-returns-5
 returns-5 c = rw (c .before .before .before .at .given .1, ← c .before .is-same .ensures, c .if1 .left)
 
 returns-6 : tie.Need-returns-6
-returns-6 c = rw (c .before .before .before .before .at2 .given .1, c .one-at .ensures, ← c .before .before .is-empty .ensures, c .before .if2 .left)
+returns-6 c = rw (c .before .before .before .before .at2 .given .1, c .take-at .ensures, ← c .before .before .is-empty .ensures, c .before .if2 .left)
 
 returns-7 : tie.Need-returns-7
-returns-7 c = rw (c .before .before .before .at3 .given .1, c .one-at2 .ensures, c .before .read .ensures)
+returns-7 c = rw (c .before .before .before .at3 .given .1, c .take-at2 .ensures, c .before .read .ensures)
 
 returns-8 : tie.Need-returns-8
 returns-8 c = rw (c .before .before .before .before .before .at4 .given .1, c .stopped2 .ensures, ne-eqb _ _ (c .before .if3 .left))
@@ -105,18 +111,19 @@ one-step-spec =
     is-same-requires
     plus-requires
     onward-requires
+    turn-requires
     turning-requires
     returns
     enum-known-at-2
     is-empty-requires
     stopped-requires
     returns-2
-    one-at-requires
+    take-at-requires
     enum-known-at-3
     read-requires
-    one-at-requires-2
+    take-at-requires-2
     enum-known-at-4
-    one-at-requires-3
+    take-at-requires-3
     returns-3
     stopped-requires-2
     enum-known-at-5
@@ -125,6 +132,7 @@ one-step-spec =
     next-in-hand-requires
     onward-requires-2
     to-write-requires
+    put-at-requires
     returns-4
     stopped-requires-3
     returns-5
