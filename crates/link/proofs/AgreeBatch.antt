@@ -6,7 +6,8 @@ use lib.Dec.{leb, eqb}
 use Rattle.index.specs.Index.{plusOf}
 use Rattle.index.proofs.Laws.{plus-is}
 use Rattle.ring.specs.declared.Ring.{Ring}
-use Rattle.core.specs.declared.stage.SourceStage.the-variants.{All}
+use Rattle.core.specs.declared.stage.SourceStage.the-variants.{Take}
+use Rattle.core.specs.declared.stage.OwnStage.the-variants.{Put}
 use Rattle.core.specs.declared.stage.Stage.the-variants.{BatchSource, BatchOwn}
 use Rattle.op_batch.specs.Haul as H
 use Rattle.advance.specs.Advance.{ofBatch}
@@ -19,13 +20,13 @@ abbrev withHand : Haul → InHand → Haul
 withHand h a = record { ring = h .ring; f = h .f; n = h .n; b = h .b; hand = a }
 
 module _ (R : ℕ → ℕ → Ring) (k : ℕ) (new : Ring) where
-  pub copy-agree : (h : Haul) (i : ℕ) → BatchSource k (All (H.copying (haulFor (R k) h) i)) ≡ stageFor R new (copyNext k h i)
+  pub copy-agree : (h : Haul) (i : ℕ) → BatchSource k (Take (haulFor (R k) h) (H.copying (H.turnOf (h .n) i))) ≡ stageFor R new (copyNext k h i)
   copy-agree h i = either (leb (h .n) i) (λ t. rw t) (λ t. rw t)
 
-  pub swap-agree : (h : Haul) (x : ℕ) → BatchOwn k (H.swapping (haulFor (R k) h) x) ≡ stageFor R new (swapNext k h x)
+  pub swap-agree : (h : Haul) (x : ℕ) → BatchOwn k (Put (haulFor (R k) h) (H.swapping (H.turnOf (h .n / 2) x))) ≡ stageFor R new (swapNext k h x)
   swap-agree h x = either (leb (h .n / 2) x) (λ t. rw t) (λ t. rw t)
 
-  landing-agree : (fo : Flavour) (h : Haul) → BatchOwn k (H.landing (flavorOf fo) (haulFor (R k) h)) ≡ stageFor R new (landing fo k h)
+  landing-agree : (fo : Flavour) (h : Haul) → BatchOwn k (Put (haulFor (R k) h) (H.landing (flavorOf fo) (h .n))) ≡ stageFor R new (landing fo k h)
   landing-agree fifo h = swap-agree h 0
   landing-agree lifo h = refl
 
@@ -40,7 +41,7 @@ module _ (R : ℕ → ℕ → Ring) (k : ℕ) (new : Ring) where
         go (some v) = rw (landing-agree fo (withCount (withHand h (some v)) i))
 
     pub turn-agree : (h : Haul) (i : ℕ) (q : Queue)
-        → ofBatch k (H.turning (flavorOf fo) (haulFor (R k) h) i (queueFor fl (R j) q)) ≡ outFor fl R j new (turning fo k h i q)
+        → ofBatch k (H.turning (flavorOf fo) (haulFor (R k) h) (H.turnOf (h .n) i) (queueFor fl (R j) q)) ≡ outFor fl R j new (turning fo k h i q)
     turn-agree h i q = either (leb (h .n) i) (λ t. rw (t, stop-agree h (h .n) q)) (λ t. rw t)
 
 -- the first of the n jobs

@@ -65,7 +65,7 @@ module _ (fl : Flavour) (R : ℕ → ℕ → Ring) (k t : ℕ) (new : Ring) (q :
 
     -- the own queue t is touched, and the haul is from k
     turn-own : (h : Haul) (i : ℕ) (r : Queue)
-        → ofBatch k (H.turning (flavorOf fl) (haulFor (R k) h) i (queueFor fl (R t) r)) ≡ outFor fl R t new (turning fl k h i r)
+        → ofBatch k (H.turning (flavorOf fl) (haulFor (R k) h) (H.turnOf (h .n) i) (queueFor fl (R t) r)) ≡ outFor fl R t new (turning fl k h i r)
     turn-own h i r = turn-agree R k new t fl fl h i r
 
     pub own-agree : (p : OwnStage) → Ok fl (own k p) q → OwnNames (R t) new gm gc p q → Same p (ownStep (offerFor gm (own k p) q) fl k p q)

@@ -41,7 +41,9 @@ use Rattle.core.specs.declared.stage.InHand.the-variants as I
 use Rattle.core.specs.declared.stage.Haul.{Haul as CodeHaul}
 use Rattle.core.specs.declared.stage.AllStage.the-variants as A
 use Rattle.core.specs.declared.stage.OneStage.the-variants as E
-use Rattle.core.specs.declared.stage.ReserveStage.the-variants as Y
+use Rattle.core.specs.declared.stage.TakeStage.the-variants as Y
+use Rattle.core.specs.declared.stage.ReserveStage.the-variants as M
+use Rattle.core.specs.declared.stage.PutStage.the-variants as H
 use Rattle.core.specs.declared.stage.SwapStage.the-variants as X
 use Rattle.core.specs.declared.stage.SourceStage.{SourceStage as CodeSource}
 use Rattle.core.specs.declared.stage.SourceStage.the-variants as F
@@ -148,28 +150,28 @@ abbrev pub sourceAt : (ℕ → Ring) → SourceStage → CodeSource
 sourceAt R (source-front m others) = F.LoadFront (kindOf m) others
 sourceAt R (source-back m others f) = F.LoadBack (kindOf m) others (ix f)
 sourceAt R (source-ring w b) = F.LoadRing (wantedFor w) (ix b)
-sourceAt R (source-first h) = F.ReadFirst (haulFor R h)
-sourceAt R (all-copy h i) = F.All (A.Copy (haulFor R h) i)
-sourceAt R (all-reload h) = F.All (A.ReloadRing (haulFor R h))
-sourceAt R (all-exchange h) = F.All (A.Exchange (haulFor R h))
-sourceAt R (one-first h v) = F.One (E.ExchangeFirst (haulFor R h) v)
-sourceAt R (one-back h i) = F.One (E.ReloadBack (haulFor R h) i)
-sourceAt R (one-read h i) = F.One (E.Read (haulFor R h) i)
-sourceAt R (one-reload h i v) = F.One (E.ReloadRing (haulFor R h) i v)
-sourceAt R (one-exchange h i v) = F.One (E.Exchange (haulFor R h) i v)
+sourceAt R (source-first h) = F.Take (haulFor R h) Y.ReadFirst
+sourceAt R (all-copy h i) = F.Take (haulFor R h) (Y.All (A.Copy i))
+sourceAt R (all-reload h) = F.Take (haulFor R h) (Y.All A.ReloadRing)
+sourceAt R (all-exchange h) = F.Take (haulFor R h) (Y.All A.Exchange)
+sourceAt R (one-first h v) = F.Take (haulFor R h) (Y.One (E.ExchangeFirst v))
+sourceAt R (one-back h i) = F.Take (haulFor R h) (Y.One (E.ReloadBack i))
+sourceAt R (one-read h i) = F.Take (haulFor R h) (Y.One (E.Read i))
+sourceAt R (one-reload h i v) = F.Take (haulFor R h) (Y.One (E.ReloadRing i v))
+sourceAt R (one-exchange h i v) = F.Take (haulFor R h) (Y.One (E.Exchange i v))
 
 abbrev pub ownAt : (ℕ → Ring) → Ring → OwnStage → CodeOwn
-ownAt R new (reserve-back w) = O.Reserve (Y.LoadBack (wantedFor w))
-ownAt R new (reserve-front w b) = O.Reserve (Y.LoadFront (wantedFor w) (ix b))
-ownAt R new (reserve-resize w z) = O.Reserve (Y.Resize (wantedFor w) (resizeAt new z))
+ownAt R new (reserve-back w) = O.Reserve (wantedFor w) M.LoadBack
+ownAt R new (reserve-front w b) = O.Reserve (wantedFor w) (M.LoadFront (ix b))
+ownAt R new (reserve-resize w z) = O.Reserve (wantedFor w) (M.Resize (resizeAt new z))
 ownAt R new (own-back w) = O.LoadBack (wantedFor w)
-ownAt R new (all-write h i v) = O.WriteCopy (haulFor R h) i v
-ownAt R new (one-write h i v) = O.WriteOne (haulFor R h) i v
-ownAt R new (swap-near h x) = O.Swap (X.ReadNear (haulFor R h) x)
-ownAt R new (swap-far h x near) = O.Swap (X.ReadFar (haulFor R h) x near)
-ownAt R new (swap-put h x near far) = O.Swap (X.WriteNear (haulFor R h) x near far)
-ownAt R new (swap-last h x near) = O.Swap (X.WriteFar (haulFor R h) x near)
-ownAt R new (own-store h) = O.StoreBack (haulFor R h)
+ownAt R new (all-write h i v) = O.Put (haulFor R h) (H.WriteCopy i v)
+ownAt R new (one-write h i v) = O.Put (haulFor R h) (H.WriteOne i v)
+ownAt R new (swap-near h x) = O.Put (haulFor R h) (H.Swap x X.ReadNear)
+ownAt R new (swap-far h x near) = O.Put (haulFor R h) (H.Swap x (X.ReadFar near))
+ownAt R new (swap-put h x near far) = O.Put (haulFor R h) (H.Swap x (X.WriteNear near far))
+ownAt R new (swap-last h x near) = O.Put (haulFor R h) (H.Swap x (X.WriteFar near))
+ownAt R new (own-store h) = O.Put (haulFor R h) H.StoreBack
 
 abbrev pub stageFor : (ℕ → ℕ → Ring) → Ring → Stage → CodeStage
 stageFor R new idle = G.Idle
