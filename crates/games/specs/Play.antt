@@ -10,7 +10,7 @@ use Rattle.core.specs.declared.queue.Flavor.{Flavor}
 use Rattle.core.specs.declared.queue.Queue.{Queue}
 use Rattle.core.specs.declared.answer.Answer.{Answer}
 use Rattle.core.specs.declared.answer.Answer.the-variants.{Working, Done, Job, Nothing, Stolen, Moved, Length, GaveUp, Refused}
-use Rattle.machine.specs.declared.operation.Operation.{Operation}
+use Rattle.gate.specs.declared.Operation.{Operation}
 use Rattle.machine.specs.State.{After, queueAt}
 use Rattle.machine.specs.Setup.{setupOf}
 use Rattle.machine.specs.Step.{stepOf}

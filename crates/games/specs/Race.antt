@@ -12,7 +12,7 @@ use Rattle.steal.specs.declared.Steal.the-variants.{Success}
 use Rattle.core.specs.declared.queue.Flavor.the-variants.{Fifo}
 use Rattle.core.specs.declared.answer.Answer.{Answer}
 use Rattle.core.specs.declared.answer.Answer.the-variants as A
-use Rattle.machine.specs.declared.operation.Operation.the-variants.{Push, Pop, Length, Steal}
+use Rattle.gate.specs.declared.Operation.the-variants.{Push, Pop, Length, Steal}
 use Rattle.machine.specs.State.{After, queueAt}
 use Rattle.machine.specs.Sound.{soundB}
 use Rattle.machine.specs.Claim.{freeRing}

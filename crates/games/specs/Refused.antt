@@ -7,7 +7,7 @@ use Rattle.index.specs.Index.{wrap, differenceOf, spansB}
 use Rattle.ring.specs.Capacity.{allowedB}
 use Rattle.core.specs.declared.queue.Flavor.the-variants.{Fifo}
 use Rattle.core.specs.declared.answer.Refusal.the-variants.{PoolLength, Unsound}
-use Rattle.machine.specs.declared.operation.Operation.the-variants.{Pop}
+use Rattle.gate.specs.declared.Operation.the-variants.{Pop}
 use Rattle.machine.specs.State.{refused}
 use Rattle.machine.specs.Sound.{soundB}
 use Rattle.machine.specs.Setup.{zeroMachine, freshMachine, setupOf}

@@ -11,7 +11,7 @@ use Rattle.core.specs.declared.queue.Flavor.{Flavor}
 use Rattle.core.specs.declared.queue.Flavor.the-variants.{Fifo, Lifo}
 use Rattle.core.specs.declared.answer.Answer.the-variants as A
 use Rattle.core.specs.declared.answer.Shortage.the-variants.{NoRing}
-use Rattle.machine.specs.declared.operation.Operation.the-variants.{Push, Pop, Steal}
+use Rattle.gate.specs.declared.Operation.the-variants.{Push, Pop, Steal}
 use Rattle.machine.specs.State.{After}
 use Rattle.machine.specs.Sound.{soundB}
 use Rattle.machine.specs.Claim.{freeRing}

@@ -7,7 +7,7 @@ use Rattle.core.specs.declared.queue.Flavor.{Flavor}
 use Rattle.core.specs.declared.queue.Flavor.the-variants.{Fifo, Lifo}
 use Rattle.core.specs.declared.answer.Answer.the-variants as A
 use Rattle.steal.specs.declared.Steal.the-variants as T
-use Rattle.machine.specs.declared.operation.Operation.the-variants.{Push, Pop, Length, Steal, Batch, BatchAndPop}
+use Rattle.gate.specs.declared.Operation.the-variants.{Push, Pop, Length, Steal, Batch, BatchAndPop}
 use Rattle.games.specs.Play.{Did, does, Game, allPlayed, playing, finish, cellsFrom, contentsUpTo}
 use Rattle.base.specs.Below.{allBelow, anyBelow, firstNot}
 use Rattle.index.specs.Index.{wrap, plusOf, minusOf, differenceOf, lengthOf, behindB, emptyB, fullB, spansB, sameB, cellOf}

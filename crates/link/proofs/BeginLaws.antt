@@ -15,8 +15,8 @@ use Rattle.ring.specs.declared.Ring.{Ring}
 use Rattle.core.specs.declared.stage.Stage.the-variants as G
 use Rattle.core.specs.declared.answer.Answer.the-variants as B
 use Rattle.sound.specs.Sound.{mostQueues}
-use Rattle.machine.specs.declared.operation.Operation.{Operation as CodeOperation}
-use Rattle.machine.specs.declared.operation.Operation.the-variants as Q
+use Rattle.gate.specs.declared.Operation.{Operation as CodeOperation}
+use Rattle.gate.specs.declared.Operation.the-variants as Q
 use Rattle.machine.specs.declared.state.Thread.{Thread}
 use Rattle.machine.specs.declared.state.Machine.{Machine}
 use Rattle.machine.specs.State.{after, idleThread, withStage}

@@ -20,7 +20,7 @@ use Rattle.core.specs.declared.out.Claim.the-variants as J
 use Rattle.core.specs.Out.{left}
 use Rattle.core.specs.Stages.{touchedOf, idleB, claimsB}
 use Rattle.advance.specs.Advance.{advanceOf}
-use Rattle.machine.specs.declared.operation.Gate.the-variants.{Open}
+use Rattle.gate.specs.declared.Gate.the-variants.{Open}
 use Rattle.machine.specs.declared.state.Machine.{Machine}
 use Rattle.machine.specs.State.{after, zeroQueue, queueAt, counted}
 use Rattle.machine.specs.Claim.{freePlace, freeRing, claimOf}

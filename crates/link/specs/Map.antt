@@ -57,8 +57,8 @@ use Rattle.core.specs.declared.answer.Shortage.the-variants.{TooLarge, NoRing}
 use Rattle.core.specs.declared.out.Claim.{Claim as CodeClaim}
 use Rattle.core.specs.declared.out.Claim.the-variants as J
 use Rattle.core.specs.declared.out.Out.{Out as CodeOut}
-use Rattle.machine.specs.declared.operation.Operation.{Operation as CodeOperation}
-use Rattle.machine.specs.declared.operation.Operation.the-variants as Q
+use Rattle.gate.specs.declared.Operation.{Operation as CodeOperation}
+use Rattle.gate.specs.declared.Operation.the-variants as Q
 use Rattle.model.specs.Stage.{Flavour, fifo, lifo, Queue, cap, ResizeStage, resize-back, resize-front, resize-copy, resize-swap, PushStage, push-back}
 use Rattle.model.specs.Stage.{push-front, push-resize, push-write, push-store, FifoPopStage, fifo-back, fifo-front, fifo-add, fifo-restore, fifo-read}
 use Rattle.model.specs.Stage.{LifoPopStage, lifo-back, lifo-front, lifo-store, lifo-reload, lifo-restore, lifo-last, lifo-exchange, job, lifo-won}

@@ -1,4 +1,3 @@
 pub mod StateLaws
-pub mod SoundLaws
 pub mod SetupLaws
 pub mod Loops

@@ -1,8 +1,7 @@
 -- Begin stores the operation and touches nothing shared. It tests 3, 1, 4 (thread, then source), 5, 7.
 use Prim.Native.Nat.{ℕ, _-_}
-use mathlib.Core.Bool.{Bool, true, not}
 use mathlib.Core.List.{List}
-use lib.Dec.{eqb, ltb}
+use lib.Dec.{eqb}
 use lib.ListN.{length}
 use Rattle.base.specs.Tests.{pick}
 use Rattle.core.specs.declared.queue.Flavor.{Flavor}
@@ -20,40 +19,13 @@ use Rattle.core.specs.declared.stage.SourceStage.the-variants as S
 use Rattle.core.specs.declared.stage.Stage.{Stage}
 use Rattle.core.specs.declared.stage.Stage.the-variants as G
 use Rattle.core.specs.declared.answer.Answer.the-variants.{Working}
-use Rattle.core.specs.declared.answer.Refusal.the-variants.{NoSuch, Busy, NoLimit}
 use Rattle.core.specs.Stages.{idleB}
-use Rattle.machine.specs.declared.operation.Operation.{Operation}
-use Rattle.machine.specs.declared.operation.Operation.the-variants.{Push, Pop, Length, Steal, Batch, BatchAndPop}
-use Rattle.machine.specs.declared.operation.Gate.{Gate}
-use Rattle.machine.specs.declared.operation.Gate.the-variants.{Open, Shut}
+use Rattle.gate.specs.declared.Operation.{Operation}
+use Rattle.gate.specs.declared.Operation.the-variants.{Push, Pop, Length, Steal, Batch, BatchAndPop}
+use Rattle.gate.specs.Gate.{ownQueue, beginTests, thenGate}
 use Rattle.machine.specs.declared.state.Machine.{Machine}
-use Rattle.machine.specs.State.{After, after, ownQueue, queueAt, stageAt, withStage}
-use Rattle.machine.specs.Step.{gateOf, thenGate, passing}
-
--- the queue that the operation names exists; k is the queue count
-abbrev pub namesB : ℕ → Operation → Bool
-namesB k (Push job) = true
-namesB k Pop = true
-namesB k (Length q) = ltb q k
-namesB k (Steal src) = ltb src k
-namesB k (Batch src limit) = ltb src k
-namesB k (BatchAndPop src limit) = ltb src k
-
--- the limit, if there is one, is not 0
-abbrev pub limitB : Operation → Bool
-limitB (Push job) = true
-limitB Pop = true
-limitB (Length q) = true
-limitB (Steal src) = true
-limitB (Batch src limit) = not (eqb limit 0)
-limitB (BatchAndPop src limit) = not (eqb limit 0)
-
--- a begin that passed the gate
-abbrev pub beginTests : ℕ → Bool → Operation → Gate
-beginTests k idle o = pick (namesB k o) (pick idle (pick (limitB o) Open (Shut NoLimit)) (Shut Busy)) (Shut NoSuch)
-
-abbrev pub beginGate : ℕ → Stage → Operation → Gate
-beginGate k s o = beginTests k (idleB s) o
+use Rattle.machine.specs.State.{After, after, queueAt, stageAt, withStage}
+use Rattle.machine.specs.Step.{gateOf, passing}
 
 abbrev pub popping : Flavor → PopStage
 popping F.Fifo = P.Fifo D.LoadBack
@@ -74,4 +46,4 @@ begun m cells t o = after (withStage m t (firstStage (queueAt m (ownQueue t) .fl
 
 unfoldable pub beginOf : Machine → List ℕ → ℕ → Operation → After
 beginOf m cells t o =
-    passing (thenGate (gateOf m (length cells) t) (beginGate (m .«queue_count») (stageAt m t) o)) m cells (begun m cells t o)
+    passing (thenGate (gateOf m (length cells) t) (beginTests (m .«queue_count») (idleB (stageAt m t)) o)) m cells (begun m cells t o)

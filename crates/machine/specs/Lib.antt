@@ -4,4 +4,5 @@ pub mod Claim
 pub mod Setup
 pub mod Step
 pub mod Begin
+pub mod Call
 pub mod Shown

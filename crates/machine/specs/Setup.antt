@@ -1,17 +1,17 @@
 -- At setup queue q has ring q in place q, capacity 64; setup writes no cell. Setup tests 2, then 1; a refused one gives the machine of zeros.
-use Prim.Native.Nat.{ℕ, _*_}
+use Prim.Native.Nat.{ℕ}
 use mathlib.Core.List.{List, [], _∷_}
-use lib.Dec.{eqb, ltb}
+use lib.Dec.{ltb}
 use lib.ListN.{length, getD}
 use Rattle.base.specs.Tests.{pick}
 use Rattle.ring.specs.Capacity.{smallest}
-use Rattle.cells.specs.Cells.{placeCells}
-use Rattle.sound.specs.Sound.{countsB}
 use Rattle.core.specs.declared.queue.Flavor.{Flavor}
 use Rattle.core.specs.declared.queue.Flavor.the-variants.{Fifo}
 use Rattle.core.specs.declared.queue.Queue.{Queue}
 use Rattle.core.specs.declared.answer.Answer.the-variants.{Done}
-use Rattle.core.specs.declared.answer.Refusal.the-variants.{PoolLength, Counts}
+use Rattle.gate.specs.declared.Gate.{Gate}
+use Rattle.gate.specs.declared.Gate.the-variants.{Open, Shut}
+use Rattle.gate.specs.Gate.{setupTests}
 use Rattle.machine.specs.declared.state.Thread.{Thread}
 use Rattle.machine.specs.declared.state.Machine.{Machine}
 use Rattle.machine.specs.State.{After, after, refused, zeroIndex, zeroQueue, idleThread}
@@ -51,9 +51,10 @@ freshMachine k flavors n = record {
   «next_ring» = record { 0 = k };
 }
 
+abbrev pub settingUp : Gate → ℕ → List Flavor → ℕ → List ℕ → After
+settingUp Open k flavors n cells = after (freshMachine k flavors n) Done cells
+settingUp (Shut r) k flavors n cells = refused zeroMachine r cells
+
 -- k queues of these flavours, n places
 unfoldable pub setupOf : ℕ → List Flavor → ℕ → List ℕ → After
-setupOf k flavors n cells =
-    pick (countsB k n)
-    (pick (eqb (length cells) (n * placeCells)) (after (freshMachine k flavors n) Done cells) (refused zeroMachine PoolLength cells))
-    (refused zeroMachine Counts cells)
+setupOf k flavors n cells = settingUp (setupTests k n (length cells)) k flavors n cells

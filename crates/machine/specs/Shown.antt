@@ -4,8 +4,8 @@ use Prim.Native.Nat.{ℕ}
 use mathlib.Core.List.{List, []}
 use lib.ListN.{length}
 use Rattle.cells.specs.Cells.{stretchOf}
-use Rattle.machine.specs.declared.operation.Gate.{Gate}
-use Rattle.machine.specs.declared.operation.Gate.the-variants.{Open, Shut}
+use Rattle.gate.specs.declared.Gate.{Gate}
+use Rattle.gate.specs.declared.Gate.the-variants.{Open, Shut}
 use Rattle.machine.specs.declared.state.Machine.{Machine}
 use Rattle.machine.specs.State.{queueAt}
 use Rattle.machine.specs.Step.{gateOf}

@@ -37,10 +37,6 @@ refusedOf m r = record { machine = m; answer = Refused r }
 abbrev pub refused : Machine → Refusal → List ℕ → After
 refused m r cells = leaves (refusedOf m r) cells
 
--- thread t owns queue t
-abbrev pub ownQueue : ℕ → ℕ
-ownQueue t = t
-
 abbrev pub zeroIndex : Index
 zeroIndex = record { 0 = pos 0 }
 

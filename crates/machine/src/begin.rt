@@ -3,16 +3,13 @@ ghost use Prim.Native.Nat.{_-_};
 ghost use mathlib.Core.Path.{_≡_};
 ghost use mathlib.Core.List.{[]};
 ghost use Rattle.machine.specs.State.{leaves, stageAt};
-ghost use Rattle.machine.specs.Step.{gateOf, thenGate};
-ghost use Rattle.machine.specs.Begin.{namesB, limitB, beginTests, beginGate, popping as poppingOf, firstStage, begun as begunOf, beginOf};
-use crate::gate::then_gate;
-use crate::operation::Gate;
-use crate::operation::Operation;
+ghost use Rattle.gate.specs.Gate.{beginTests, thenGate};
+ghost use Rattle.core.specs.Stages.{idleB};
+ghost use Rattle.machine.specs.Step.{gateOf};
+ghost use Rattle.machine.specs.Begin.{popping as poppingOf, firstStage, begun as begunOf, beginOf};
 use crate::state::Called;
 use crate::state::Machine;
-use crate::state::own_queue;
 use core::answer::Answer;
-use core::answer::Refusal;
 use core::queue::Flavor;
 use core::stage::BatchKind;
 use core::stage::FifoPopStage;
@@ -25,56 +22,11 @@ use core::stage::SourceStage;
 use core::stage::Stage;
 use core::stage::StealStage;
 use core::stages::is_idle;
-
-// The queue that the operation names exists.
-fn names(count: usize, operation: Operation) -> bool
-    ensures { λ r. ⌜ r ≡ namesB count operation ⌝ }
-{
-    match operation {
-        Operation::Push(_) => true,
-        Operation::Pop => true,
-        Operation::Length(queue) => queue < count,
-        Operation::Steal(source) => source < count,
-        Operation::Batch { source, limit: _ } => source < count,
-        Operation::BatchAndPop { source, limit: _ } => source < count,
-    }
-}
-
-// The limit, if there is one, is not 0.
-fn has_limit(operation: Operation) -> bool
-    ensures { λ r. ⌜ r ≡ limitB operation ⌝ }
-{
-    match operation {
-        Operation::Push(_) => true,
-        Operation::Pop => true,
-        Operation::Length(_) => true,
-        Operation::Steal(_) => true,
-        Operation::Batch { source: _, limit } => limit != 0,
-        Operation::BatchAndPop { source: _, limit } => limit != 0,
-    }
-}
-
-// 4 for the source, 5, 7.
-fn begin_tests(count: usize, idle: bool, operation: Operation) -> Gate
-    ensures { λ r. ⌜ r ≡ beginTests count idle operation ⌝ }
-{
-    if !names(count, operation) {
-        return Gate::Shut(Refusal::NoSuch);
-    }
-    if !idle {
-        return Gate::Shut(Refusal::Busy);
-    }
-    if !has_limit(operation) {
-        return Gate::Shut(Refusal::NoLimit);
-    }
-    Gate::Open
-}
-
-fn begin_gate(count: usize, stage: Stage, operation: Operation) -> Gate
-    ensures { λ r. ⌜ r ≡ beginGate count stage operation ⌝ }
-{
-    begin_tests(count, is_idle(stage), operation)
-}
+use gate::Gate;
+use gate::Operation;
+use gate::own_queue;
+use gate::tests::begin_tests;
+use gate::tests::then_gate;
 
 fn popping(flavor: Flavor) -> PopStage
     ensures { λ r. ⌜ r ≡ poppingOf flavor ⌝ }
@@ -139,11 +91,11 @@ fn first_stage(flavor: Flavor, own: usize, operation: Operation) -> Stage
 impl Machine {
     // All the tests of a begin, in order.
     fn may_begin(self, length: usize, thread: usize, operation: Operation) -> Gate
-        ensures { λ r. ⌜ r ≡ thenGate (gateOf self length thread) (beginGate (self .«queue_count») (stageAt self thread) operation) ⌝ }
+        ensures { λ r. ⌜ r ≡ thenGate (gateOf self length thread) (beginTests (self .«queue_count») (idleB (stageAt self thread)) operation) ⌝ }
     {
         then_gate(
             self.gate(length, thread),
-            begin_gate(self.queue_count, self.stage(thread), operation),
+            begin_tests(self.queue_count, is_idle(self.stage(thread)), operation),
         )
     }
 

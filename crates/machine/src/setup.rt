@@ -8,17 +8,17 @@ use crate::state::Called;
 use crate::state::Machine;
 use crate::state::Thread;
 use crate::state::zero_queue;
-use cells::PLACE_CELLS;
 use core::answer::Answer;
 use core::answer::Refusal;
 use core::queue::Flavor;
 use core::queue::Queue;
 use core::stage::Stage;
+use gate::Gate;
+use gate::tests::setup_tests;
 use index::Index;
 use ring::PlaceNumber;
 use ring::Ring;
 use ring::RingNumber;
-use sound::counts_in_range;
 
 // Fifo where no flavour is given.
 fn flavor_at(flavors: [Flavor; 4], q: usize) -> Flavor
@@ -92,15 +92,16 @@ impl Machine {
     pub fn setup(queues: usize, flavors: [Flavor; 4], places: usize, pool: &[u64]) -> Called
         ensures { λ r. ⌜ leaves r (now (pool .entry)) ≡ setupOf queues flavors places (now (pool .entry)) ⌝ }
     {
-        if !counts_in_range(queues, places) {
-            return turned_away(Refusal::Counts);
-        }
-        if pool.len() != places * PLACE_CELLS {
-            return turned_away(Refusal::PoolLength);
-        }
-        Called {
-            machine: fresh_machine(queues, flavors, places),
-            answer: Answer::Done,
+        match setup_tests(queues, places, pool.len()) {
+            Gate::Open => {
+                return Called {
+                    machine: fresh_machine(queues, flavors, places),
+                    answer: Answer::Done,
+                };
+            }
+            Gate::Shut(refusal) => {
+                return turned_away(refusal);
+            }
         }
     }
 }

@@ -1,9 +1,9 @@
 // A queue's ring, shown as the caller's own cells.
 ghost use mathlib.Core.Path.{_≡_};
 ghost use Rattle.machine.specs.Shown.{shownOf};
-use crate::operation::Gate;
 use crate::state::Machine;
 use cells::stretch;
+use gate::Gate;
 
 impl Machine {
     // An unsound machine, a wrong pool length or a queue that is not there shows an empty part.

@@ -2,7 +2,7 @@
 ghost use mathlib.Core.Path.{_≡_};
 ghost use lib.ListN.{getD, set};
 ghost use Rattle.core.specs.Kept.{keptOf};
-ghost use Rattle.machine.specs.State.{zeroQueue, queueAt, stageAt, withQueue, withStage, numberAfter, counted as countedOf, refusedOf, ownQueue};
+ghost use Rattle.machine.specs.State.{zeroQueue, queueAt, stageAt, withQueue, withStage, numberAfter, counted as countedOf, refusedOf};
 use core::answer::Answer;
 use core::answer::Refusal;
 use core::kept::Kept;
@@ -33,13 +33,6 @@ pub struct Machine {
 pub struct Called {
     pub machine: Machine,
     pub answer: Answer,
-}
-
-// Thread t owns queue t.
-pub fn own_queue(thread: usize) -> usize
-    ensures { λ r. ⌜ r ≡ ownQueue thread ⌝ }
-{
-    thread
 }
 
 pub(crate) fn zero_queue() -> Queue

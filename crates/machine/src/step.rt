@@ -2,37 +2,32 @@
 ghost use mathlib.Core.Path.{_≡_};
 ghost use mathlib.Core.List.{[]};
 ghost use Rattle.core.specs.Out.{left};
+ghost use Rattle.core.specs.Stages.{idleB};
+ghost use Rattle.gate.specs.Gate.{stepTests, thenGate};
 ghost use Rattle.machine.specs.State.{leaves, stageAt};
-ghost use Rattle.machine.specs.Step.{gateOf, stepGate, thenGate, stored as storedOf, ran as ranOf, stepOf};
-use crate::gate::then_gate;
-use crate::operation::Gate;
+ghost use Rattle.machine.specs.Step.{gateOf, stored as storedOf, ran as ranOf, stepOf};
 use crate::state::Called;
 use crate::state::Machine;
-use crate::state::own_queue;
 use advance::advance;
-use core::answer::Refusal;
 use core::out::Claim;
 use core::out::Out;
 use core::stage::Stage;
 use core::stages::is_idle;
 use core::stages::touched;
-
-// 6.
-fn step_gate(stage: Stage) -> Gate
-    ensures { λ r. ⌜ r ≡ stepGate stage ⌝ }
-{
-    if is_idle(stage) {
-        return Gate::Shut(Refusal::Idle);
-    }
-    Gate::Open
-}
+use gate::Gate;
+use gate::own_queue;
+use gate::tests::step_tests;
+use gate::tests::then_gate;
 
 impl Machine {
     // All the tests of a step, in order.
     fn may_step(self, length: usize, thread: usize) -> Gate
-        ensures { λ r. ⌜ r ≡ thenGate (gateOf self length thread) (stepGate (stageAt self thread)) ⌝ }
+        ensures { λ r. ⌜ r ≡ thenGate (gateOf self length thread) (stepTests (idleB (stageAt self thread))) ⌝ }
     {
-        then_gate(self.gate(length, thread), step_gate(self.stage(thread)))
+        then_gate(
+            self.gate(length, thread),
+            step_tests(is_idle(self.stage(thread))),
+        )
     }
 
     // The machine with what the thread's step left of queue k.

@@ -15,7 +15,7 @@ use Rattle.core.specs.declared.queue.Flavor.the-variants.{Fifo}
 use Rattle.core.specs.declared.answer.Answer.the-variants as A
 use Rattle.core.specs.declared.answer.Refusal.the-variants.{NoSuch}
 use Rattle.core.specs.Answers.{told}
-use Rattle.machine.specs.declared.operation.Operation.the-variants.{Push, Length, Steal}
+use Rattle.gate.specs.declared.Operation.the-variants.{Push, Length, Steal}
 use Rattle.machine.specs.declared.state.Machine.{Machine}
 use Rattle.machine.specs.State.{After, after, refused, queueAt}
 use Rattle.machine.specs.Sound.{soundB}

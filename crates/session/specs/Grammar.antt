@@ -9,8 +9,8 @@ use Rattle.base.specs.Tests.{pick}
 use Rattle.core.specs.declared.queue.Flavor.{Flavor}
 use Rattle.core.specs.declared.queue.Flavor.the-variants as F
 use Rattle.sound.specs.Sound.{mostQueues}
-use Rattle.machine.specs.State.{ownQueue}
-use Rattle.machine.specs.declared.operation.Operation.the-variants as O
+use Rattle.gate.specs.Gate.{ownQueue}
+use Rattle.gate.specs.declared.Operation.the-variants as O
 use Rattle.session.specs.declared.grammar.Kind.{Kind}
 use Rattle.session.specs.declared.grammar.Kind.the-variants.{Step, Push, Pop, OwnLength, Length, Steal, Batch, BatchAndPop}
 use Rattle.session.specs.declared.grammar.KindRead.{KindRead}

@@ -2,8 +2,8 @@
 ghost use mathlib.Core.Path.{_≡_};
 ghost use Rattle.session.specs.Grammar.{kindOf, sourceB, operandB, requestOf, flavorOf, flavorsOf, newSession, wholeB, to as toOf, wrong as wrongOf, withPlaces, withFlavor, flavorsRead, kindHeard, unusedB, flavorHeard, sourceHeard, operandHeard, hearOf};
 use core::queue::Flavor;
-use machine::operation::Operation;
-use machine::state::own_queue;
+use gate::Operation;
+use gate::own_queue;
 use sound::MOST_QUEUES;
 
 // The kinds of calls, 0 to 7.

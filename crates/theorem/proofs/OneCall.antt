@@ -14,9 +14,9 @@ use Rattle.core.specs.declared.answer.Answer.the-variants as B
 use Rattle.core.specs.declared.answer.Refusal.{Refusal}
 use Rattle.core.specs.declared.answer.Refusal.the-variants as K
 use Rattle.core.specs.Stages.{idleB}
-use Rattle.machine.specs.declared.operation.Operation.{Operation as CodeOperation}
-use Rattle.machine.specs.declared.operation.Operation.the-variants as O
-use Rattle.machine.specs.declared.operation.Gate.the-variants.{Open, Shut}
+use Rattle.gate.specs.declared.Operation.{Operation as CodeOperation}
+use Rattle.gate.specs.declared.Operation.the-variants as O
+use Rattle.gate.specs.declared.Gate.the-variants.{Open, Shut}
 use Rattle.machine.specs.declared.state.Machine.{Machine}
 use Rattle.machine.specs.State.{After, refused, stageAt}
 use Rattle.machine.specs.Sound.{soundB}

@@ -19,9 +19,9 @@ use Rattle.core.specs.declared.out.Claim.{Claim as CodeClaim}
 use Rattle.core.specs.declared.out.Claim.the-variants as J
 use Rattle.core.specs.Stages.{idleB}
 use Rattle.sound.specs.Sound.{countsB}
-use Rattle.machine.specs.declared.operation.Operation.{Operation as CodeOperation}
-use Rattle.machine.specs.declared.operation.Gate.{Gate}
-use Rattle.machine.specs.declared.operation.Gate.the-variants.{Open, Shut}
+use Rattle.gate.specs.declared.Operation.{Operation as CodeOperation}
+use Rattle.gate.specs.declared.Gate.{Gate}
+use Rattle.gate.specs.declared.Gate.the-variants.{Open, Shut}
 use Rattle.machine.specs.declared.state.Machine.{Machine}
 use Rattle.machine.specs.State.{After, after, queueAt, stageAt, counted}
 use Rattle.machine.specs.Setup.{freshMachine, setupOf}

@@ -7,7 +7,7 @@ use native.Mathlib.Omega.{arith}
 use lib.Dec.{T}
 use Rattle.steal.specs.declared.Steal.the-variants as T
 use Rattle.core.specs.declared.answer.Answer.the-variants as B
-use Rattle.machine.specs.declared.operation.Operation.the-variants as O
+use Rattle.gate.specs.declared.Operation.the-variants as O
 use Rattle.machine.specs.declared.state.Machine.{Machine}
 use Rattle.machine.specs.State.{After, after}
 use Rattle.model.specs.Count.{one, upd}

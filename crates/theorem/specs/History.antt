@@ -14,8 +14,8 @@ use Rattle.core.specs.declared.stage.Stage.the-variants.{Idle}
 use Rattle.core.specs.declared.answer.Answer.{Answer}
 use Rattle.core.specs.declared.answer.Answer.the-variants.{Working, Done, Job, Nothing, Stolen, Moved, Length, GaveUp, Refused}
 use Rattle.core.specs.declared.answer.Refusal.the-variants as R
-use Rattle.machine.specs.declared.operation.Operation.{Operation}
-use Rattle.machine.specs.declared.operation.Operation.the-variants as O
+use Rattle.gate.specs.declared.Operation.{Operation}
+use Rattle.gate.specs.declared.Operation.the-variants as O
 use Rattle.machine.specs.declared.state.Machine.{Machine}
 use Rattle.machine.specs.State.{After, queueAt, stageAt}
 use Rattle.machine.specs.Setup.{setupOf}

@@ -9,14 +9,25 @@ gate-requires c κs = search needs
 stage-requires : tie.Need-stage-requires
 stage-requires c κs = search needs
 
-step-gate-requires : tie.Need-step-gate-requires
-step-gate-requires c κs = search needs
+is-idle-requires : tie.Need-is-idle-requires
+is-idle-requires c κs = search needs
+
+step-tests-requires : tie.Need-step-tests-requires
+step-tests-requires c κs = search needs
 
 then-gate-requires : tie.Need-then-gate-requires
 then-gate-requires c κs = search needs
 
 returns : tie.Need-returns
-returns c = rw (c .then-gate .ensures, c .before .step-gate .ensures, c .before .before .stage .ensures, c .before .before .before .gate .ensures)
+returns c = rw (c .then-gate .ensures, c .before .step-tests .ensures, c .before .before .is-idle .ensures, c .before .before .before .stage .ensures, c .before .before .before .before .gate .ensures)
 
 pub may-step-spec : {M : Type 1} → statement M
-may-step-spec = tie.close (tie.spec gate-requires stage-requires step-gate-requires then-gate-requires returns)
+may-step-spec =
+    tie.close
+    (tie.spec
+    gate-requires
+    stage-requires
+    is-idle-requires
+    step-tests-requires
+    then-gate-requires
+    returns)

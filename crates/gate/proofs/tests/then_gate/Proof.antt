@@ -1,7 +1,7 @@
 -- Each arm of `then_gate` is its clause of `thenGate`.
 use borrow.Author.Needs.{needs}
-use Rattle.machine.proofs.gate.then_gate.Statement.{statement}
-use Rattle.machine.proofs.gate.then_gate.Tie as tie
+use Rattle.gate.proofs.tests.then_gate.Statement.{statement}
+use Rattle.gate.proofs.tests.then_gate.Tie as tie
 
 enum-told : tie.Need-enum-told
 enum-told c = search needs

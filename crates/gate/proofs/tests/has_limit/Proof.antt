@@ -1,7 +1,7 @@
--- Each arm of `names` is its clause of `namesB`.
+-- Each arm of `has_limit` is its clause of `limitB`.
 use borrow.Author.Needs.{needs}
-use Rattle.machine.proofs.begin.names.Statement.{statement}
-use Rattle.machine.proofs.begin.names.Tie as tie
+use Rattle.gate.proofs.tests.has_limit.Statement.{statement}
+use Rattle.gate.proofs.tests.has_limit.Tie as tie
 
 enum-told : tie.Need-enum-told
 enum-told c = search needs
@@ -9,17 +9,17 @@ enum-told c = search needs
 enum-told-2 : tie.Need-enum-told-2
 enum-told-2 c = search needs
 
+enum-told-3 : tie.Need-enum-told-3
+enum-told-3 c = search needs
+
+enum-told-4 : tie.Need-enum-told-4
+enum-told-4 c = search needs
+
 enum-known-operation : tie.Need-enum-known-operation
 enum-known-operation c = search needs
 
 enum-known-operation-2 : tie.Need-enum-known-operation-2
 enum-known-operation-2 c = search needs
-
-enum-known-operation-3 : tie.Need-enum-known-operation-3
-enum-known-operation-3 c = search needs
-
-enum-known-operation-4 : tie.Need-enum-known-operation-4
-enum-known-operation-4 c = search needs
 
 returns : tie.Need-returns
 returns c = search needs
@@ -28,27 +28,27 @@ returns-2 : tie.Need-returns-2
 returns-2 c = search needs
 
 returns-3 : tie.Need-returns-3
-returns-3 c = rw (c .before .operation .given .1)
+returns-3 c = search needs
 
 returns-4 : tie.Need-returns-4
-returns-4 c = rw (c .before .operation2 .given .1)
+returns-4 c = search needs
 
 returns-5 : tie.Need-returns-5
-returns-5 c = rw (c .before .operation3 .given .1)
+returns-5 c = rw (c .before .operation .given .1)
 
 returns-6 : tie.Need-returns-6
-returns-6 c = rw (c .before .operation4 .given .1)
+returns-6 c = rw (c .before .operation2 .given .1)
 
-pub names-spec : {M : Type 1} → statement M
-names-spec =
+pub has-limit-spec : {M : Type 1} → statement M
+has-limit-spec =
     tie.close
     (tie.spec
     enum-told
     enum-told-2
+    enum-told-3
+    enum-told-4
     enum-known-operation
     enum-known-operation-2
-    enum-known-operation-3
-    enum-known-operation-4
     returns
     returns-2
     returns-3

@@ -2,10 +2,10 @@
 use mathlib.Core.Bool.{true}
 use mathlib.Core.Path.{_≡_, sym, _∙_}
 use borrow.Author.Tests.{not-true, not-false}
-use Rattle.machine.specs.Begin.{namesB}
+use Rattle.gate.specs.Gate.{namesB}
 use borrow.Author.Needs.{needs}
-use Rattle.machine.proofs.begin.begin_tests.Statement.{statement}
-use Rattle.machine.proofs.begin.begin_tests.Tie as tie
+use Rattle.gate.proofs.tests.begin_tests.Statement.{statement}
+use Rattle.gate.proofs.tests.begin_tests.Tie as tie
 
 names-requires : tie.Need-names-requires
 names-requires c κs = search needs
@@ -13,7 +13,7 @@ names-requires c κs = search needs
 returns : tie.Need-returns
 returns c = rw (← c .before .names .ensures, not-true (c .before .names .result) (c .if1 .taken))
 
-named : (c : tie.Else1) → namesB (c .before .before .args .count) (c .before .before .args .operation) ≡ true
+named : (c : tie.Else1) → namesB (c .before .before .args .queues) (c .before .before .args .operation) ≡ true
 named c = sym (c .before .names .ensures) ∙ not-false _ (c .if1 .left)
 
 returns-2 : tie.Need-returns-2

@@ -1,0 +1,20 @@
+// The tests that begin and step share.
+ghost use mathlib.Core.Path.{_≡_};
+ghost use Rattle.machine.specs.Step.{gateOf};
+use crate::state::Machine;
+use gate::Gate;
+use gate::tests::call_tests;
+
+impl Machine {
+    pub(crate) fn gate(self, length: usize, thread: usize) -> Gate
+        ensures { λ r. ⌜ r ≡ gateOf self length thread ⌝ }
+    {
+        call_tests(
+            self.is_sound(),
+            self.place_count,
+            length,
+            self.queue_count,
+            thread,
+        )
+    }
+}
