@@ -20,7 +20,8 @@ use Rattle.gate.specs.declared.Operation.the-variants as Q
 use Rattle.machine.specs.declared.state.Thread.{Thread}
 use Rattle.machine.specs.declared.state.Machine.{Machine}
 use Rattle.machine.specs.State.{after, idleThread, withStage}
-use Rattle.machine.specs.Begin.{namesB, limitB, beginOf}
+use Rattle.gate.specs.Gate.{namesB, limitB}
+use Rattle.machine.specs.Begin.{beginOf}
 use Rattle.machine.specs.Begin as H
 use Rattle.model.specs.Count.{upd}
 use Rattle.model.specs.Stage.{Flavour, fifo, lifo, Popper, byPop, byBatch, BatchKind, plain, andPop, none, Stage, idle}

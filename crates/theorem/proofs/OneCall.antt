@@ -16,12 +16,14 @@ use Rattle.core.specs.declared.answer.Refusal.the-variants as K
 use Rattle.core.specs.Stages.{idleB}
 use Rattle.gate.specs.declared.Operation.{Operation as CodeOperation}
 use Rattle.gate.specs.declared.Operation.the-variants as O
+use Rattle.gate.specs.declared.Request.the-variants.{Step, Begin}
 use Rattle.gate.specs.declared.Gate.the-variants.{Open, Shut}
 use Rattle.machine.specs.declared.state.Machine.{Machine}
 use Rattle.machine.specs.State.{After, refused, stageAt}
 use Rattle.machine.specs.Sound.{soundB}
 use Rattle.machine.specs.Step.{gateOf, stepOf}
-use Rattle.machine.specs.Begin.{namesB, limitB, beginGate, beginOf}
+use Rattle.gate.specs.Gate.{namesB, limitB, beginTests}
+use Rattle.machine.specs.Begin.{beginOf}
 use Rattle.model.specs.Stage.{Flavour, job, own, byPop, byBatch, source, Stage, idle, push, fifoPop, lifoPop, shrink, steal, len, ownBatch, Answer}
 use Rattle.model.specs.Stage.{working, done, nothing, empty, success, retry, moved, twoNumbers, tooLarge, noRing}
 use Rattle.model.specs.Tables.{Offer}
@@ -37,7 +39,7 @@ use Rattle.link.proofs.AgreeResize.{true-false}
 use Rattle.link.proofs.SoundLaws.{linked-sound}
 use Rattle.link.proofs.TurnLaws.{idle-is, small, gate-open, Turned, turn}
 use Rattle.link.proofs.BeginLaws.{exists, begin-is, begin-linked}
-use Rattle.theorem.specs.History.{pool, other, Lent, Call, begin, step, lentBy, threadOf, lent, poolAfter, callOf, acceptedBy, answeredBy}
+use Rattle.theorem.specs.History.{pool, other, Lent, Call, asks, lentBy, threadOf, lent, poolAfter, calledOf, acceptedBy, answeredBy}
 use Rattle.theorem.specs.History.{wished, jobsAfter, Allowed}
 
 -- ---- the model's answers and the code's
@@ -129,12 +131,12 @@ module _ (n : ℕ) (fl : ℕ → Flavour) (mem : ℕ → ℕ) (c : ℕ) (lc : c 
 
   -- ---- refused: all as it was
 
-  begin-refused : (p : Lent) (t : ℕ) (o : CodeOperation) (r : Refusal) → Allowed p (B.Refused r) → Goes (begin p t o) (refused m r (lent p cells))
+  begin-refused : (p : Lent) (t : ℕ) (o : CodeOperation) (r : Refusal) → Allowed p (B.Refused r) → Goes (asks p t (Begin o)) (refused m r (lent p cells))
   unfolding later
   begin-refused pool t o r h = record { behind = later; bal = λ j. refl; fine = h }
   begin-refused (other l) t o r h = record { behind = later; bal = λ j. refl; fine = h }
 
-  step-refused : (p : Lent) (t : ℕ) (r : Refusal) → Allowed p (B.Refused r) → Goes (step p t) (refused m r (lent p cells))
+  step-refused : (p : Lent) (t : ℕ) (r : Refusal) → Allowed p (B.Refused r) → Goes (asks p t Step) (refused m r (lent p cells))
   unfolding later
   step-refused pool t r h = record { behind = later; bal = λ j. refl; fine = h }
   step-refused (other l) t r h = record { behind = later; bal = λ j. refl; fine = h }
@@ -157,9 +159,9 @@ module _ (n : ℕ) (fl : ℕ → Flavour) (mem : ℕ → ℕ) (c : ℕ) (lc : c 
   -- ---- begin
 
   begins : (t : ℕ) (o : CodeOperation) → t < n → s .stages t ≡ idle → namesB n o ≡ true → limitB o ≡ true
-      → Goes (begin pool t o) (beginOf m cells t o)
+      → Goes (asks pool t (Begin o)) (beginOf m cells t o)
   begins t o lt i e h =
-      subst (Goes (begin pool t o)) (sym (begin-is n fl (b .names) s m cells (b .linked) mem (b .inv) c (b .bounded) lc t lt o i e h)) record {
+      subst (Goes (asks pool t (Begin o))) (sym (begin-is n fl (b .names) s m cells (b .linked) mem (b .inv) c (b .bounded) lc t lt o i e h)) record {
         behind = record {
           names = b .names;
           state = begun fl s t (operationOf o);
@@ -174,12 +176,12 @@ module _ (n : ℕ) (fl : ℕ → Flavour) (mem : ℕ → ℕ) (c : ℕ) (lc : c 
       k : Kept n fl 0 (wish mem t (operationOf o)) s (begun fl s t (operationOf o)) working
       k = begin-kept n fl 0 mem s t (operationOf o) (b .inv) lt i (exists n o e)
 
-  begin-shut : (t : ℕ) (o : CodeOperation) (r : Refusal) → t < n → beginGate (m .«queue_count») (stageAt m t) o ≡ Shut r
+  begin-shut : (t : ℕ) (o : CodeOperation) (r : Refusal) → t < n → beginTests (m .«queue_count») (idleB (stageAt m t)) o ≡ Shut r
       → beginOf m cells t o ≡ refused m r cells
   unfolding beginOf
   begin-shut t o r lt e = rw (gate-in t lt, e)
 
-  begin-in : (t : ℕ) (o : CodeOperation) → t < n → Goes (begin pool t o) (beginOf m cells t o)
+  begin-in : (t : ℕ) (o : CodeOperation) → t < n → Goes (asks pool t (Begin o)) (beginOf m cells t o)
   begin-in t o lt = go (namesB (m .«queue_count») o) refl (busy (s .stages t)) refl (limitB o) refl
     where
       w : Linked n fl (b .names) s m cells
@@ -188,35 +190,35 @@ module _ (n : ℕ) (fl : ℕ → Flavour) (mem : ℕ → ℕ) (c : ℕ) (lc : c 
       idles : idleB (stageAt m t) ≡ not (busy (s .stages t))
       idles = ap idleB (w .stages t lt) ∙ idle-is (b .names) (b .names t (s .queues t .top)) (s .stages t)
 
-      shut : (r : Refusal) → Allowed pool (B.Refused r) → beginGate (m .«queue_count») (stageAt m t) o ≡ Shut r
-          → Goes (begin pool t o) (beginOf m cells t o)
-      shut r h e = subst (Goes (begin pool t o)) (sym (begin-shut t o r lt e)) (begin-refused pool t o r h)
+      shut : (r : Refusal) → Allowed pool (B.Refused r) → beginTests (m .«queue_count») (idleB (stageAt m t)) o ≡ Shut r
+          → Goes (asks pool t (Begin o)) (beginOf m cells t o)
+      shut r h e = subst (Goes (asks pool t (Begin o))) (sym (begin-shut t o r lt e)) (begin-refused pool t o r h)
 
       go : (x : Bool) → namesB (m .«queue_count») o ≡ x → (y : Bool) → busy (s .stages t) ≡ y → (z : Bool) → limitB o ≡ z
-          → Goes (begin pool t o) (beginOf m cells t o)
+          → Goes (asks pool t (Begin o)) (beginOf m cells t o)
       go false e y f z h = shut K.NoSuch tt (rw e)
       go true e true f z h = shut K.Busy tt (rw (e, idles, f))
       go true e false f false h = shut K.NoLimit tt (rw (e, idles, f, h))
       go true e false f true h = begins t o lt (idle-of (s .stages t) f) (ap (λ (k : ℕ). namesB k o) (sym (w .count)) ∙ e) h
 
-  begin-own : (t : ℕ) (o : CodeOperation) → Goes (begin pool t o) (beginOf m cells t o)
+  begin-own : (t : ℕ) (o : CodeOperation) → Goes (asks pool t (Begin o)) (beginOf m cells t o)
   unfolding beginOf
   begin-own t o = ⊎-elim (λ h. rw (gate-none t h) (begin-refused pool t o K.NoSuch tt)) (λ h. begin-in t o h) (le-or-lt n t)
 
   begin-other : (l : List ℕ) (t : ℕ) (o : CodeOperation) → (length l ≡ m .«place_count» * placeCells → ⊥)
-      → Goes (begin (other l) t o) (beginOf m l t o)
+      → Goes (asks (other l) t (Begin o)) (beginOf m l t o)
   unfolding beginOf
   begin-other l t o h = rw (gate-other l t h) (begin-refused (other l) t o K.PoolLength refl)
 
   -- ---- step
 
-  steps : (t : ℕ) → t < n → busy (s .stages t) ≡ true → Goes (step pool t) (stepOf m cells t)
+  steps : (t : ℕ) → t < n → busy (s .stages t) ≡ true → Goes (asks pool t Step) (stepOf m cells t)
   steps t lt e =
       let k : Turned n fl s m cells mem (b .inv) c (b .bounded) lc t lt bx = turn n fl s m cells mem (b .inv) c (b .bounded) lc t lt bx (b .names) (b .linked) in
       let g : Offer = offerFor (k .claim) (s .stages t) (s .queues (touched t (s .stages t))) in
       let kept = step-kept n fl mem s t g (b .inv) lt bx in
       let a = stepOut fl s t g (s .stages t) .answer in
-      subst (Goes (step pool t)) (sym (k .step)) record {
+      subst (Goes (asks pool t Step)) (sym (k .step)) record {
         behind = record {
           names = k .names;
           state = stepped fl s t g (s .stages t);
@@ -231,32 +233,32 @@ module _ (n : ℕ) (fl : ℕ → Flavour) (mem : ℕ → ℕ) (c : ℕ) (lc : c 
       bx : T (busy (s .stages t))
       bx = to-T (busy (s .stages t)) e
 
-  step-in : (t : ℕ) → t < n → Goes (step pool t) (stepOf m cells t)
+  step-in : (t : ℕ) → t < n → Goes (asks pool t Step) (stepOf m cells t)
   unfolding stepOf
   step-in t lt = go (busy (s .stages t)) refl
     where
       w : Linked n fl (b .names) s m cells
       w = b .linked
 
-      go : (y : Bool) → busy (s .stages t) ≡ y → Goes (step pool t) (stepOf m cells t)
+      go : (y : Bool) → busy (s .stages t) ≡ y → Goes (asks pool t Step) (stepOf m cells t)
       go true f = steps t lt f
       go false f =
           rw (gate-in t lt, w .stages t lt, idle-is (b .names) (b .names t (s .queues t .top)) (s .stages t), f) (step-refused pool t K.Idle tt)
 
-  step-own : (t : ℕ) → Goes (step pool t) (stepOf m cells t)
+  step-own : (t : ℕ) → Goes (asks pool t Step) (stepOf m cells t)
   unfolding stepOf
   step-own t = ⊎-elim (λ h. rw (gate-none t h) (step-refused pool t K.NoSuch tt)) (λ h. step-in t h) (le-or-lt n t)
 
-  step-other : (l : List ℕ) (t : ℕ) → (length l ≡ m .«place_count» * placeCells → ⊥) → Goes (step (other l) t) (stepOf m l t)
+  step-other : (l : List ℕ) (t : ℕ) → (length l ≡ m .«place_count» * placeCells → ⊥) → Goes (asks (other l) t Step) (stepOf m l t)
   unfolding stepOf
   step-other l t h = rw (gate-other l t h) (step-refused (other l) t K.PoolLength refl)
 
   -- ---- any call
 
   pub one-call : (call : Call) → ((l : List ℕ) → lentBy call ≡ other l → length l ≡ m .«place_count» * placeCells → ⊥)
-      → Goes call (callOf m cells call)
-  unfolding callOf
-  one-call (begin pool t o) h = begin-own t o
-  one-call (begin (other l) t o) h = begin-other l t o (h l refl)
-  one-call (step pool t) h = step-own t
-  one-call (step (other l) t) h = step-other l t (h l refl)
+      → Goes call (calledOf m cells call)
+  unfolding calledOf
+  one-call (asks pool t (Begin o)) h = begin-own t o
+  one-call (asks (other l) t (Begin o)) h = begin-other l t o (h l refl)
+  one-call (asks pool t Step) h = step-own t
+  one-call (asks (other l) t Step) h = step-other l t (h l refl)

@@ -20,14 +20,16 @@ use Rattle.core.specs.declared.out.Claim.the-variants as J
 use Rattle.core.specs.Stages.{idleB}
 use Rattle.sound.specs.Sound.{countsB}
 use Rattle.gate.specs.declared.Operation.{Operation as CodeOperation}
+use Rattle.gate.specs.declared.Request.the-variants.{Step, Begin}
 use Rattle.gate.specs.declared.Gate.{Gate}
 use Rattle.gate.specs.declared.Gate.the-variants.{Open, Shut}
 use Rattle.machine.specs.declared.state.Machine.{Machine}
 use Rattle.machine.specs.State.{After, after, queueAt, stageAt, counted}
 use Rattle.machine.specs.Setup.{freshMachine, setupOf}
 use Rattle.machine.specs.Claim.{claimOf}
-use Rattle.machine.specs.Step.{gateOf, stepGate, thenGate, passing, ran, stepOf}
-use Rattle.machine.specs.Begin.{beginGate, beginOf}
+use Rattle.gate.specs.Gate.{beginTests, stepTests, thenGate}
+use Rattle.machine.specs.Step.{gateOf, passing, ran, stepOf}
+use Rattle.machine.specs.Begin.{beginOf}
 use Rattle.machine.specs.Begin as H
 use Rattle.model.specs.Count.{stand}
 use Rattle.model.specs.Stage.{Flavour, Queue, at, idle}
@@ -39,7 +41,7 @@ use Rattle.link.specs.Map.{ix}
 use Rattle.link.specs.Linked.{Behind}
 use Rattle.link.proofs.LinkedLaws.{fits}
 use Rattle.link.proofs.TurnLaws.{idle-is}
-use Rattle.theorem.specs.History.{answered, Call, begin, step, lentBy, lent, poolAfter, callOf, Lends, runBy, run, jobsAfter, acceptedFrom}
+use Rattle.theorem.specs.History.{answered, Call, asks, lentBy, lent, poolAfter, calledOf, Lends, runBy, run, jobsAfter, acceptedFrom}
 use Rattle.theorem.specs.History.{standsIn, standing, AtRest, AllAllowed}
 use Rattle.theorem.proofs.OneCall.{idle-of, Goes, one-call}
 
@@ -51,7 +53,7 @@ counted-places m (J.Got number place) = refl
 
 step-places : (m : Machine) (cells : List ℕ) (t : ℕ) → stepOf m cells t .called .machine .«place_count» ≡ m .«place_count»
 unfolding stepOf
-step-places m cells t = go (thenGate (gateOf m (length cells) t) (stepGate (stageAt m t)))
+step-places m cells t = go (thenGate (gateOf m (length cells) t) (stepTests (idleB (stageAt m t))))
   where
     go : (g : Gate) → passing g m cells (ran m cells t (stageAt m t)) .called .machine .«place_count» ≡ m .«place_count»
     go Open = counted-places m (claimOf m (stageAt m t))
@@ -59,16 +61,16 @@ step-places m cells t = go (thenGate (gateOf m (length cells) t) (stepGate (stag
 
 begin-places : (m : Machine) (cells : List ℕ) (t : ℕ) (o : CodeOperation) → beginOf m cells t o .called .machine .«place_count» ≡ m .«place_count»
 unfolding beginOf
-begin-places m cells t o = go (thenGate (gateOf m (length cells) t) (beginGate (m .«queue_count») (stageAt m t) o))
+begin-places m cells t o = go (thenGate (gateOf m (length cells) t) (beginTests (m .«queue_count») (idleB (stageAt m t)) o))
   where
     go : (g : Gate) → passing g m cells (H.begun m cells t o) .called .machine .«place_count» ≡ m .«place_count»
     go Open = refl
     go (Shut r) = refl
 
-call-places : (m : Machine) (cells : List ℕ) (c : Call) → callOf m cells c .called .machine .«place_count» ≡ m .«place_count»
-unfolding callOf
-call-places m cells (begin p t o) = begin-places m (lent p cells) t o
-call-places m cells (step p t) = step-places m (lent p cells) t
+call-places : (m : Machine) (cells : List ℕ) (c : Call) → calledOf m cells c .called .machine .«place_count» ≡ m .«place_count»
+unfolding calledOf
+call-places m cells (asks p t (Begin o)) = begin-places m (lent p cells) t o
+call-places m cells (asks p t Step) = step-places m (lent p cells) t
 
 -- ---- a run
 
@@ -98,7 +100,7 @@ module _ (n : ℕ) (fl : ℕ → Flavour) (places : ℕ) where
     fine = tt;
   }
   run-goes jobs c m cells b (x ∷ calls) l e h =
-      let a : After = callOf m cells x in
+      let a : After = calledOf m cells x in
       let k : Goes n fl jobs c lc m cells b x a = one-call n fl jobs c lc m cells b x (λ p q r. h .0 p q (r ∙ ap (λ (i : ℕ). i * placeCells) e)) in
       let r = run-goes (jobsAfter jobs x (a .called .answer)) (suc c) (a .called .machine) (poolAfter (lentBy x) cells (a .cells)) (k .behind) calls (omega arith)
       (call-places m cells x ∙ e) (h .1) in

@@ -1,5 +1,5 @@
 -- The two statements of demand 3, over the very definitions that the contracts of `Machine::setup`, `begin` and `step` cite: `setupOf`, `beginOf`
--- and `stepOf`. They rest on these and on specs/History alone: `session` (a setup, then `run` by `callOf`), `Lends`, `accepted` and `answered`
+-- and `stepOf`. They rest on these and on specs/History alone: `session` (a setup, then `run` by `calledOf`), `Lends`, `accepted` and `answered`
 -- (from the history), `standing` (from machine and pool), `AtRest`, `AllAllowed`; and on the machine's own `soundB`.
 -- k queues, n places; the pool's cells are any.
 use mathlib.Core.Path.{_≡_, refl, ap, subst}

@@ -8,20 +8,21 @@ use lib.Dec.{T}
 use Rattle.steal.specs.declared.Steal.the-variants as T
 use Rattle.core.specs.declared.answer.Answer.the-variants as B
 use Rattle.gate.specs.declared.Operation.the-variants as O
+use Rattle.gate.specs.declared.Request.the-variants.{Step, Begin}
 use Rattle.machine.specs.declared.state.Machine.{Machine}
 use Rattle.machine.specs.State.{After, after}
 use Rattle.model.specs.Count.{one, upd}
-use Rattle.theorem.specs.History.{pool, accepted, answered, other, Call, begin, step, lentBy, lent, runBy, acceptedFrom, standing}
+use Rattle.theorem.specs.History.{pool, accepted, answered, other, Call, asks, lentBy, lent, runBy, acceptedFrom, standing}
 
 -- thread 0 pushes, and every step of another thread answers the same job
 abbrev copies : Machine → List ℕ → Call → After
-copies m cells (begin p t o) = after m B.Working cells
-copies m cells (step p zero) = after m B.Done cells
-copies m cells (step p (suc t)) = after m (B.Job 7) cells
+copies m cells (asks p t (Begin o)) = after m B.Working cells
+copies m cells (asks p zero Step) = after m B.Done cells
+copies m cells (asks p (suc t) Step) = after m (B.Job 7) cells
 
 -- one job is accepted, and it is answered twice
 abbrev twice : List Call
-twice = begin pool 0 (O.Push 7) ∷ step pool 0 ∷ step pool 1 ∷ step pool 1 ∷ []
+twice = asks pool 0 (Begin (O.Push 7)) ∷ asks pool 0 Step ∷ asks pool 1 Step ∷ asks pool 1 Step ∷ []
 
 pub copies-fails : (m : Machine) (cells : List ℕ)
     → (accepted (runBy copies m cells twice .history) 7 ≡ 1) × (answered (runBy copies m cells twice .history) 7 ≡ 2)
@@ -37,11 +38,11 @@ pub empty-passes : (m : Machine) (cells : List ℕ) (calls : List Call) (jobs : 
     × (standing (runBy says-empty m cells calls .machine) (runBy says-empty m cells calls .cells) j ≡ standing m cells j)
 unfolding runBy acceptedFrom answered
 empty-passes m cells [] jobs j = (refl, refl, refl)
-empty-passes m cells (begin pool t o ∷ calls) jobs j =
+empty-passes m cells (asks pool t (Begin o) ∷ calls) jobs j =
     let r = empty-passes m cells calls jobs j in (omega (arith, r .0), omega (arith, r .1), r .2)
-empty-passes m cells (begin (other l) t o ∷ calls) jobs j =
+empty-passes m cells (asks (other l) t (Begin o) ∷ calls) jobs j =
     let r = empty-passes m cells calls jobs j in (omega (arith, r .0), omega (arith, r .1), r .2)
-empty-passes m cells (step pool t ∷ calls) jobs j =
+empty-passes m cells (asks pool t Step ∷ calls) jobs j =
     let r = empty-passes m cells calls jobs j in (omega (arith, r .0), omega (arith, r .1), r .2)
-empty-passes m cells (step (other l) t ∷ calls) jobs j =
+empty-passes m cells (asks (other l) t Step ∷ calls) jobs j =
     let r = empty-passes m cells calls jobs j in (omega (arith, r .0), omega (arith, r .1), r .2)

@@ -16,11 +16,12 @@ use Rattle.core.specs.declared.answer.Answer.the-variants.{Working, Done, Job, 
 use Rattle.core.specs.declared.answer.Refusal.the-variants as R
 use Rattle.gate.specs.declared.Operation.{Operation}
 use Rattle.gate.specs.declared.Operation.the-variants as O
+use Rattle.gate.specs.declared.Request.{Request}
+use Rattle.gate.specs.declared.Request.the-variants.{Step, Begin}
 use Rattle.machine.specs.declared.state.Machine.{Machine}
 use Rattle.machine.specs.State.{After, queueAt, stageAt}
 use Rattle.machine.specs.Setup.{setupOf}
-use Rattle.machine.specs.Begin.{beginOf}
-use Rattle.machine.specs.Step.{stepOf}
+use Rattle.machine.specs.Call.{callOf}
 use Rattle.model.specs.Count.{one, upd, stand, sumTo}
 
 -- ---- calls
@@ -31,16 +32,13 @@ pub data Lent : Type 0 where
   other : List ℕ → Lent
 
 pub data Call : Type 0 where
-  begin : Lent → (t : ℕ) → Operation → Call
-  step : Lent → (t : ℕ) → Call
+  asks : Lent → (t : ℕ) → Request → Call
 
 abbrev pub lentBy : Call → Lent
-lentBy (begin p t o) = p
-lentBy (step p t) = p
+lentBy (asks p t r) = p
 
 abbrev pub threadOf : Call → ℕ
-threadOf (begin p t o) = t
-threadOf (step p t) = t
+threadOf (asks p t r) = t
 
 abbrev pub lent : Lent → List ℕ → List ℕ
 lent pool cells = cells
@@ -51,9 +49,8 @@ abbrev pub poolAfter : Lent → List ℕ → List ℕ → List ℕ
 poolAfter pool cells after = after
 poolAfter (other l) cells after = cells
 
-unfoldable pub callOf : Machine → List ℕ → Call → After
-callOf m cells (begin p t o) = beginOf m (lent p cells) t o
-callOf m cells (step p t) = stepOf m (lent p cells) t
+unfoldable pub calledOf : Machine → List ℕ → Call → After
+calledOf m cells (asks p t r) = callOf m (lent p cells) t r
 
 -- no call lends another list of the length that the pool must have
 unfoldable pub Lends : ℕ → List Call → Type 0
@@ -80,7 +77,7 @@ runBy calls m cells (c ∷ cs) =
     record { machine = r .machine; cells = r .cells; history = record { call = c; answer = a .called .answer } ∷ r .history }
 
 abbrev pub run : Machine → List ℕ → List Call → Session
-run = runBy callOf
+run = runBy calledOf
 
 -- k queues of these flavours, n places, the cells whatever they are
 abbrev pub session : ℕ → List Flavor → ℕ → List ℕ → List Call → Session
@@ -135,8 +132,8 @@ begunBy (GaveUp s) new old = old
 begunBy (Refused r) new old = old
 
 abbrev pub jobsAfter : (ℕ → ℕ) → Call → Answer → ℕ → ℕ
-jobsAfter jobs (begin p t o) a = begunBy a (wished jobs t o) jobs
-jobsAfter jobs (step p t) a = jobs
+jobsAfter jobs (asks p t (Begin o)) a = begunBy a (wished jobs t o) jobs
+jobsAfter jobs (asks p t Step) a = jobs
 
 unfoldable pub acceptedFrom : (ℕ → ℕ) → List Event → ℕ → ℕ
 acceptedFrom jobs [] j = 0
