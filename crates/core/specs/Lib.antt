@@ -1,4 +1,5 @@
 pub mod Answers
+pub mod Queues
 pub mod Stages
 pub mod Kept
 pub mod Out

@@ -1,5 +1,11 @@
+// A queue: its flavour, front and back, and the ring that it has now.
+ghost use mathlib.Core.Path.{_≡_};
+ghost use lib.ListN.{getD};
+ghost use Rattle.core.specs.Queues.{zeroQueue};
 use index::Index;
+use ring::PlaceNumber;
 use ring::Ring;
+use ring::RingNumber;
 
 // Which end the owner pops. A queue keeps its flavour for life.
 pub enum Flavor {
@@ -12,4 +18,27 @@ pub struct Queue {
     pub front: Index,
     pub back: Index,
     pub ring: Ring,
+}
+
+pub fn zero_queue() -> Queue
+    ensures { λ r. ⌜ r ≡ zeroQueue ⌝ }
+{
+    let ring = Ring {
+        number: RingNumber(0),
+        place: PlaceNumber(0),
+        capacity: 0,
+    };
+    Queue {
+        flavor: Flavor::Fifo,
+        front: Index(0),
+        back: Index(0),
+        ring,
+    }
+}
+
+// Queue k of these, and zeros where there is none.
+pub fn queue_of(queues: [Queue; 4], k: usize) -> Queue
+    ensures { λ r. ⌜ r ≡ getD queues k zeroQueue ⌝ }
+{
+    if k < 4 { queues[k] } else { zero_queue() }
 }

@@ -2,6 +2,7 @@
 use Prim.Native.Nat.{ℕ}
 use mathlib.Core.List.{List, [], _++_}
 use lib.Dec.{ltb}
+use lib.ListN.{getD}
 use Rattle.base.specs.Tests.{pick}
 use Rattle.text.specs.Writing.{ascii, decimal, signed}
 use Rattle.steal.specs.declared.Steal.{Steal}
@@ -11,8 +12,7 @@ use Rattle.core.specs.declared.queue.Queue.{Queue}
 use Rattle.core.specs.declared.answer.Answer.{Answer}
 use Rattle.core.specs.declared.answer.Answer.the-variants.{Working, Done, Job, Nothing, Stolen, Moved, Length, GaveUp, Refused}
 use Rattle.core.specs.Answers.{refusalOf, shortageOf}
-use Rattle.machine.specs.declared.state.Machine.{Machine}
-use Rattle.machine.specs.State.{queueAt}
+use Rattle.core.specs.Queues.{zeroQueue}
 
 abbrev pub stolenText : Steal → List ℕ
 stolenText Empty = ascii "empty"
@@ -40,12 +40,14 @@ ringText r = spaced (r .number .0) ++ (spaced (r .place .0) ++ spaced (r .capaci
 abbrev pub queueText : Queue → List ℕ
 queueText q = ascii "\t" ++ (signed (q .front .0) ++ (ascii " " ++ (signed (q .back .0) ++ ringText (q .ring))))
 
-abbrev pub queueTextIf : Machine → ℕ → List ℕ
-queueTextIf m k = pick (ltb k (m .«queue_count»)) (queueText (queueAt m k)) []
+-- queue k of n
+abbrev pub queueTextIf : ℕ → List Queue → ℕ → List ℕ
+queueTextIf n queues k = pick (ltb k n) (queueText (getD queues k zeroQueue)) []
 
-abbrev pub callText : Machine → Answer → List ℕ
-callText m a =
-    answerText a ++ (queueTextIf m 0 ++ (queueTextIf m 1 ++ (queueTextIf m 2 ++ (queueTextIf m 3 ++ ascii "\n"))))
+abbrev pub callText : ℕ → List Queue → Answer → List ℕ
+callText n queues a =
+    answerText a ++
+    (queueTextIf n queues 0 ++ (queueTextIf n queues 1 ++ (queueTextIf n queues 2 ++ (queueTextIf n queues 3 ++ ascii "\n"))))
 
 abbrev pub setupText : Answer → List ℕ
 setupText a = ascii "setup " ++ (answerText a ++ ascii "\n")

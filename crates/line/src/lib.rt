@@ -9,8 +9,8 @@ use core::answer::Answer;
 use core::answer::Refusal;
 use core::answer::Shortage;
 use core::queue::Queue;
+use core::queue::queue_of;
 use index::Index;
-use machine::state::Machine;
 use ring::Ring;
 use steal::Steal;
 use text::writing::put_number;
@@ -105,24 +105,25 @@ fn put_queue(page: &mut [u8], at: usize, q: Queue) -> usize
     put_ring(page, d, q.ring)
 }
 
-fn put_queue_if(page: &mut [u8], at: usize, machine: Machine, k: usize) -> usize
-    ensures { λ r. ⌜ pageOf (now (page .exit)) r ≡ put (now (page .entry)) at (queueTextIf machine k) ⌝ }
+// Queue k of so many.
+fn put_queue_if(page: &mut [u8], at: usize, count: usize, queues: [Queue; 4], k: usize) -> usize
+    ensures { λ r. ⌜ pageOf (now (page .exit)) r ≡ put (now (page .entry)) at (queueTextIf count queues k) ⌝ }
 {
-    if k < machine.queue_count {
-        return put_queue(page, at, machine.queue(k));
+    if k < count {
+        return put_queue(page, at, queue_of(queues, k));
     }
     at
 }
 
-// A call's line.
-pub fn put_call(page: &mut [u8], at: usize, machine: Machine, answer: Answer) -> usize
-    ensures { λ r. ⌜ pageOf (now (page .exit)) r ≡ put (now (page .entry)) at (callText machine answer) ⌝ }
+// A call's line: of the queues so many.
+pub fn put_call(page: &mut [u8], at: usize, count: usize, queues: [Queue; 4], answer: Answer) -> usize
+    ensures { λ r. ⌜ pageOf (now (page .exit)) r ≡ put (now (page .entry)) at (callText count queues answer) ⌝ }
 {
     let a = put_answer(page, at, answer);
-    let b = put_queue_if(page, a, machine, 0);
-    let c = put_queue_if(page, b, machine, 1);
-    let d = put_queue_if(page, c, machine, 2);
-    let e = put_queue_if(page, d, machine, 3);
+    let b = put_queue_if(page, a, count, queues, 0);
+    let c = put_queue_if(page, b, count, queues, 1);
+    let d = put_queue_if(page, c, count, queues, 2);
+    let e = put_queue_if(page, d, count, queues, 3);
     put_text(page, e, b"\n")
 }
 

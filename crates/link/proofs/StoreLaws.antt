@@ -19,7 +19,8 @@ use Rattle.core.specs.declared.out.Claim.the-variants as J
 use Rattle.sound.specs.Sound.{mostQueues, countsB, ringSound}
 use Rattle.machine.specs.declared.state.Thread.{Thread}
 use Rattle.machine.specs.declared.state.Machine.{Machine}
-use Rattle.machine.specs.State.{zeroQueue, idleThread, withQueue, withStage, counted}
+use Rattle.core.specs.Queues.{zeroQueue}
+use Rattle.machine.specs.State.{idleThread, withQueue, withStage, counted}
 use Rattle.model.specs.Count.{upd}
 use Rattle.model.specs.Stage.{Flavour, Out}
 use Rattle.model.specs.Machine.{State, stored}

@@ -22,7 +22,8 @@ use Rattle.core.specs.Stages.{touchedOf, idleB, claimsB}
 use Rattle.advance.specs.Advance.{advanceOf}
 use Rattle.gate.specs.declared.Gate.the-variants.{Open}
 use Rattle.machine.specs.declared.state.Machine.{Machine}
-use Rattle.machine.specs.State.{after, zeroQueue, queueAt, counted}
+use Rattle.core.specs.Queues.{zeroQueue}
+use Rattle.machine.specs.State.{after, queueAt, counted}
 use Rattle.machine.specs.Claim.{freePlace, freeRing, claimOf}
 use Rattle.machine.specs.Step.{gateOf, ran, stepOf}
 use Rattle.model.specs.Stage.{Flavour, Queue, cap, ResizeStage, resize-back, resize-front, resize-copy, resize-swap, PushStage, push-back, push-front}

@@ -8,13 +8,14 @@ use Rattle.ring.specs.Capacity.{smallest}
 use Rattle.core.specs.declared.queue.Flavor.{Flavor}
 use Rattle.core.specs.declared.queue.Flavor.the-variants.{Fifo}
 use Rattle.core.specs.declared.queue.Queue.{Queue}
+use Rattle.core.specs.Queues.{zeroIndex, zeroQueue}
 use Rattle.core.specs.declared.answer.Answer.the-variants.{Done}
 use Rattle.gate.specs.declared.Gate.{Gate}
 use Rattle.gate.specs.declared.Gate.the-variants.{Open, Shut}
 use Rattle.gate.specs.Gate.{setupTests}
 use Rattle.machine.specs.declared.state.Thread.{Thread}
 use Rattle.machine.specs.declared.state.Machine.{Machine}
-use Rattle.machine.specs.State.{After, after, refused, zeroIndex, zeroQueue, idleThread}
+use Rattle.machine.specs.State.{After, after, refused, idleThread}
 
 abbrev pub idleThreads : List Thread
 idleThreads = idleThread ∷ idleThread ∷ idleThread ∷ idleThread ∷ []

@@ -1,13 +1,11 @@
 -- The machine's parts, and the machine with one part changed.
 use Prim.Native.Nat.{ℕ}
 use mathlib.Core.List.{List}
-use lib.IntN.{pos}
 use lib.ListN.{getD, set}
-use Rattle.index.specs.declared.Index.{Index}
 use Rattle.ring.specs.declared.RingNumber.{RingNumber}
 use Rattle.ring.specs.Number.{nextNumber}
-use Rattle.core.specs.declared.queue.Flavor.the-variants.{Fifo}
 use Rattle.core.specs.declared.queue.Queue.{Queue}
+use Rattle.core.specs.Queues.{zeroQueue}
 use Rattle.core.specs.declared.stage.Stage.{Stage}
 use Rattle.core.specs.declared.stage.Stage.the-variants.{Idle}
 use Rattle.core.specs.declared.answer.Answer.{Answer}
@@ -36,17 +34,6 @@ refusedOf m r = record { machine = m; answer = Refused r }
 
 abbrev pub refused : Machine → Refusal → List ℕ → After
 refused m r cells = leaves (refusedOf m r) cells
-
-abbrev pub zeroIndex : Index
-zeroIndex = record { 0 = pos 0 }
-
-abbrev pub zeroQueue : Queue
-zeroQueue = record {
-  flavor = Fifo;
-  front = zeroIndex;
-  back = zeroIndex;
-  ring = record { number = record { 0 = 0 }; place = record { 0 = 0 }; capacity = 0 };
-}
 
 abbrev pub idleThread : Thread
 idleThread = record { stage = Idle }

@@ -7,11 +7,11 @@ ghost use Rattle.machine.specs.Setup.{idleThreads, zeroMachine, freshQue
 use crate::state::Called;
 use crate::state::Machine;
 use crate::state::Thread;
-use crate::state::zero_queue;
 use core::answer::Answer;
 use core::answer::Refusal;
 use core::queue::Flavor;
 use core::queue::Queue;
+use core::queue::zero_queue;
 use core::stage::Stage;
 use gate::Gate;
 use gate::tests::setup_tests;

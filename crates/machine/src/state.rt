@@ -1,19 +1,16 @@
 // The machine, its parts, and the machine with one part changed.
 ghost use mathlib.Core.Path.{_≡_};
-ghost use lib.ListN.{getD, set};
+ghost use lib.ListN.{set};
 ghost use Rattle.core.specs.Kept.{keptOf};
-ghost use Rattle.machine.specs.State.{zeroQueue, queueAt, stageAt, withQueue, withStage, numberAfter, counted as countedOf, refusedOf};
+ghost use Rattle.machine.specs.State.{queueAt, stageAt, withQueue, withStage, numberAfter, counted as countedOf, refusedOf};
 use core::answer::Answer;
 use core::answer::Refusal;
 use core::kept::Kept;
 use core::kept::ring_kept;
 use core::out::Claim;
-use core::queue::Flavor;
 use core::queue::Queue;
+use core::queue::queue_of;
 use core::stage::Stage;
-use index::Index;
-use ring::PlaceNumber;
-use ring::Ring;
 use ring::RingNumber;
 
 pub struct Thread {
@@ -33,29 +30,6 @@ pub struct Machine {
 pub struct Called {
     pub machine: Machine,
     pub answer: Answer,
-}
-
-pub(crate) fn zero_queue() -> Queue
-    ensures { λ r. ⌜ r ≡ zeroQueue ⌝ }
-{
-    let ring = Ring {
-        number: RingNumber(0),
-        place: PlaceNumber(0),
-        capacity: 0,
-    };
-    Queue {
-        flavor: Flavor::Fifo,
-        front: Index(0),
-        back: Index(0),
-        ring,
-    }
-}
-
-// Queue k of these, and zeros where there is none.
-fn queue_of(queues: [Queue; 4], k: usize) -> Queue
-    ensures { λ r. ⌜ r ≡ getD queues k zeroQueue ⌝ }
-{
-    if k < 4 { queues[k] } else { zero_queue() }
 }
 
 fn queues_with(mut queues: [Queue; 4], k: usize, q: Queue) -> [Queue; 4]

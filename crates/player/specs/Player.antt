@@ -16,13 +16,13 @@ use Rattle.sound.specs.Sound.{mostPlaces}
 use Rattle.machine.specs.declared.state.Machine.{Machine}
 use Rattle.machine.specs.State.{After}
 use Rattle.machine.specs.Setup.{setupOf}
+use Rattle.machine.specs.Call.{callOf}
 use Rattle.session.specs.declared.grammar.Said.{Said}
 use Rattle.session.specs.declared.grammar.Said.the-variants as S
 use Rattle.player.specs.declared.Player.{Player}
 use Rattle.player.specs.declared.Turn.{Turn}
 use Rattle.player.specs.declared.Shown.{Shown}
 use Rattle.session.specs.Grammar.{newSession, hearOf, flavorsOf, wholeB}
-use Rattle.session.specs.Call.{callOf}
 use Rattle.line.specs.Line.{callText, setupText, badText}
 
 abbrev pub newPlayer : Player
@@ -82,7 +82,7 @@ setUp a bytes at =
 -- a call prints its line
 abbrev pub calledOf : After → List ℕ → ℕ → Scene
 calledOf a bytes at =
-    showing (a .called .machine) false (a .cells) (put bytes at (callText (a .called .machine) (a .called .answer)))
+    showing (a .called .machine) false (a .cells) (put bytes at (callText (a .called .machine .«queue_count») (a .called .machine .queues) (a .called .answer)))
 
 -- what is no session prints its line, and the program ends
 unfoldable pub tellOf : Player → Said → Machine → List ℕ → List ℕ → ℕ → Scene

@@ -2,17 +2,16 @@
 ghost use mathlib.Core.Path.{_≡_};
 ghost use Rattle.text.specs.Writing.{page as pageOf};
 ghost use Rattle.machine.specs.Setup.{setupOf};
+ghost use Rattle.machine.specs.Call.{callOf};
 ghost use Rattle.session.specs.Grammar.{flavorsOf};
-ghost use Rattle.session.specs.Call.{callOf};
 ghost use Rattle.player.specs.Player.{newPlayer, heard as heardOf, listenOf, finishOf, cellsOf, scene, doneB, setUp, calledOf, tellOf, closeOf};
 use cells::PLACE_CELLS;
 use core::answer::Answer;
+use gate::Request;
 use line::put_bad;
 use line::put_call;
 use line::put_setup;
 use machine::state::Machine;
-use session::call::play;
-use session::grammar::Request;
 use session::grammar::Said;
 use session::grammar::Session;
 use sound::MOST_PLACES;
@@ -164,10 +163,11 @@ fn call(
 ) -> Shown
     ensures { λ r. ⌜ scene r (now (pool .exit)) (now (page .exit)) ≡ calledOf (callOf machine (now (pool .entry)) thread request) (now (page .entry)) at ⌝ }
 {
-    let called = play(machine, pool, thread, request);
+    let called = machine.call(pool, thread, request);
     let next = called.machine;
     let answer = called.answer;
-    let end = put_call(page, at, next, answer);
+    let queues = next.queues;
+    let end = put_call(page, at, next.queue_count, queues, answer);
     Shown {
         machine: next,
         at: end,

@@ -18,8 +18,8 @@ use Rattle.session.specs.declared.grammar.KindRead.the-variants as K
 use Rattle.session.specs.declared.grammar.Awaiting.{Awaiting}
 use Rattle.session.specs.declared.grammar.Awaiting.the-variants as A
 use Rattle.session.specs.declared.grammar.Session.{Session}
-use Rattle.session.specs.declared.grammar.Request.{Request}
-use Rattle.session.specs.declared.grammar.Request.the-variants as R
+use Rattle.gate.specs.declared.Request.{Request}
+use Rattle.gate.specs.declared.Request.the-variants as R
 use Rattle.session.specs.declared.grammar.Said.{Said}
 use Rattle.session.specs.declared.grammar.Said.the-variants as S
 use Rattle.session.specs.declared.grammar.Told.{Told}

@@ -1,2 +1,1 @@
 pub mod Grammar
-pub mod Call

@@ -3,6 +3,7 @@ ghost use mathlib.Core.Path.{_≡_};
 ghost use Rattle.session.specs.Grammar.{kindOf, sourceB, operandB, requestOf, flavorOf, flavorsOf, newSession, wholeB, to as toOf, wrong as wrongOf, withPlaces, withFlavor, flavorsRead, kindHeard, unusedB, flavorHeard, sourceHeard, operandHeard, hearOf};
 use core::queue::Flavor;
 use gate::Operation;
+use gate::Request;
 use gate::own_queue;
 use sound::MOST_QUEUES;
 
@@ -46,11 +47,6 @@ pub struct Session {
     pub awaiting: Awaiting,
     pub places: u64,
     pub flavors: [u64; 4],
-}
-
-pub enum Request {
-    Step,
-    Begin(Operation),
 }
 
 // What a number completes: nothing; a setup; a call; or it is wrong.

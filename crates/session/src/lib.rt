@@ -1,3 +1,2 @@
-// A session: a setup and calls, heard as numbers, and played on the machine.
-pub mod call;
+// What a session says: a setup and calls, heard as numbers.
 pub mod grammar;

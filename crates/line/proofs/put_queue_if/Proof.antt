@@ -6,8 +6,8 @@ use Rattle.text.proofs.WritingLaws.{put-none}
 use Rattle.line.proofs.put_queue_if.Statement.{statement}
 use Rattle.line.proofs.put_queue_if.Tie as tie
 
-queue-requires : tie.Need-queue-requires
-queue-requires c κs = search needs
+queue-of-requires : tie.Need-queue-of-requires
+queue-of-requires c κs = search needs
 
 put-queue-requires : tie.Need-put-queue-requires
 put-queue-requires c κs = search needs
@@ -16,11 +16,11 @@ same-length : tie.Need-same-length
 same-length c = search needs
 
 returns : tie.Need-returns
-returns c = rw (lt-ltb _ _ (c .before .before .before .before .before .if1 .taken), ← c .before .before .before .queue .ensures) (c .before .before .put-queue .ensures)
+returns c = rw (lt-ltb _ _ (c .before .before .before .before .before .if1 .taken), ← c .before .before .before .queue-of .ensures) (c .before .before .put-queue .ensures)
 
 returns-2 : tie.Need-returns-2
 returns-2 c = rw (le-ltb _ _ (c .if1 .left)) (sym (put-none _ _))
 
 pub put-queue-if-spec : {M : Type 1} → statement M
 put-queue-if-spec =
-    tie.close (tie.spec queue-requires put-queue-requires same-length returns returns-2)
+    tie.close (tie.spec queue-of-requires put-queue-requires same-length returns returns-2)

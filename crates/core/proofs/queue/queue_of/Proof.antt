@@ -2,10 +2,10 @@
 use Prim.Native.Nat.{_≤_}
 use native.Mathlib.Omega.{arith}
 use lib.ListN.{length, List·getD-eq-default}
-use Rattle.machine.specs.State.{zeroQueue}
+use Rattle.core.specs.Queues.{zeroQueue}
 use borrow.Author.Needs.{needs}
-use Rattle.machine.proofs.state.queue_of.Statement.{statement}
-use Rattle.machine.proofs.state.queue_of.Tie as tie
+use Rattle.core.proofs.queue.queue_of.Statement.{statement}
+use Rattle.core.proofs.queue.queue_of.Tie as tie
 
 mul-result : tie.Need-mul-result
 mul-result c = search needs
