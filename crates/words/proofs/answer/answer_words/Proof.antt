@@ -1,0 +1,97 @@
+-- Field by field, by what the calls of `answer_words` ensure.
+use borrow.Author.Needs.{needs}
+use Rattle.words.proofs.answer.answer_words.Statement.{statement}
+use Rattle.words.proofs.answer.answer_words.Tie as tie
+
+enum-told : tie.Need-enum-told
+enum-told c = search needs
+
+enum-told-2 : tie.Need-enum-told-2
+enum-told-2 c = search needs
+
+enum-known-answer : tie.Need-enum-known-answer
+enum-known-answer c = search needs
+
+enum-told-3 : tie.Need-enum-told-3
+enum-told-3 c = search needs
+
+enum-known-answer-2 : tie.Need-enum-known-answer-2
+enum-known-answer-2 c = search needs
+
+stolen-words-requires : tie.Need-stolen-words-requires
+stolen-words-requires c κs = search needs
+
+enum-told-4 : tie.Need-enum-told-4
+enum-told-4 c = search needs
+
+enum-known-answer-3 : tie.Need-enum-known-answer-3
+enum-known-answer-3 c = search needs
+
+bits-requires : tie.Need-bits-requires
+bits-requires c κs = search needs
+
+enum-known-answer-4 : tie.Need-enum-known-answer-4
+enum-known-answer-4 c = search needs
+
+shortage-number-requires : tie.Need-shortage-number-requires
+shortage-number-requires c κs = search needs
+
+enum-known-answer-5 : tie.Need-enum-known-answer-5
+enum-known-answer-5 c = search needs
+
+refusal-number-requires : tie.Need-refusal-number-requires
+refusal-number-requires c κs = search needs
+
+returns : tie.Need-returns
+returns c = rw (c .enum-told .given .1)
+
+returns-2 : tie.Need-returns-2
+returns-2 c = rw (c .enum-told2 .given .1)
+
+returns-3 : tie.Need-returns-3
+returns-3 c = rw (c .before .answer .given .1)
+
+returns-4 : tie.Need-returns-4
+returns-4 c = rw (c .enum-told3 .given .1)
+
+returns-5 : tie.Need-returns-5
+returns-5 c = rw (c .before .before .answer2 .given .1, c .stolen-words .ensures)
+
+returns-6 : tie.Need-returns-6
+returns-6 c = rw (c .enum-told4 .given .1)
+
+returns-7 : tie.Need-returns-7
+returns-7 c = rw (c .before .before .answer3 .given .1, c .bits .ensures)
+
+returns-8 : tie.Need-returns-8
+returns-8 c = rw (c .before .before .answer4 .given .1, c .shortage-number .ensures)
+
+returns-9 : tie.Need-returns-9
+returns-9 c = rw (c .before .before .answer5 .given .1, c .refusal-number .ensures)
+
+pub answer-words-spec : {M : Type 1} → statement M
+answer-words-spec =
+    tie.close
+    (tie.spec
+    enum-told
+    enum-told-2
+    enum-known-answer
+    enum-told-3
+    enum-known-answer-2
+    stolen-words-requires
+    enum-told-4
+    enum-known-answer-3
+    bits-requires
+    enum-known-answer-4
+    shortage-number-requires
+    enum-known-answer-5
+    refusal-number-requires
+    returns
+    returns-2
+    returns-3
+    returns-4
+    returns-5
+    returns-6
+    returns-7
+    returns-8
+    returns-9)

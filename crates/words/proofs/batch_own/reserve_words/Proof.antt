@@ -1,0 +1,50 @@
+-- Each arm of `reserve_words` is its clause, and the steps are told apart by their numbers.
+use mathlib.Core.Path.{refl}
+use borrow.Author.Needs.{needs}
+use Rattle.words.proofs.batch_own.reserve_words.Statement.{statement}
+use Rattle.words.proofs.batch_own.reserve_words.Tie as tie
+
+enum-told : tie.Need-enum-told
+enum-told c = search needs
+
+bare-requires : tie.Need-bare-requires
+bare-requires c κs = search needs
+
+returns : tie.Need-returns
+returns c = rw (c .before .enum-told .given .1, c .bare .ensures) (refl, refl)
+
+enum-known-at : tie.Need-enum-known-at
+enum-known-at c = search needs
+
+bare-requires-2 : tie.Need-bare-requires-2
+bare-requires-2 c κs = search needs
+
+index-word-requires : tie.Need-index-word-requires
+index-word-requires c κs = search needs
+
+returns-2 : tie.Need-returns-2
+returns-2 c = rw (c .before .before .before .at .given .1, c .before .bare2 .ensures) (rw (c .index-word .ensures .0), rw (c .index-word .ensures .1))
+
+enum-known-at-2 : tie.Need-enum-known-at-2
+enum-known-at-2 c = search needs
+
+resize-words-requires : tie.Need-resize-words-requires
+resize-words-requires c κs = search needs
+
+returns-3 : tie.Need-returns-3
+returns-3 c = ?
+
+pub reserve-words-spec : {M : Type 1} → statement M
+reserve-words-spec =
+    tie.close
+    (tie.spec
+    enum-told
+    bare-requires
+    returns
+    enum-known-at
+    bare-requires-2
+    index-word-requires
+    returns-2
+    enum-known-at-2
+    resize-words-requires
+    returns-3)
