@@ -53,6 +53,7 @@ pub fn stage_words(stage: Stage) -> StageWords
         Stage::OwnBatch(at) => {
             let mut w = length_words(at);
             w.operation = 5;
+            w.number = 0;
             return w;
         }
         Stage::BatchSource(source, at) => {

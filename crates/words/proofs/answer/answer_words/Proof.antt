@@ -1,5 +1,9 @@
 -- Field by field, by what the calls of `answer_words` ensure.
+use Prim.Native.Nat.{_^_, _<_}
+use native.Mathlib.Omega.{arith}
+use lib.Signed.{mag}
 use borrow.Author.Needs.{needs}
+use Rattle.index.proofs.Signs.{back}
 use Rattle.words.proofs.answer.answer_words.Statement.{statement}
 use Rattle.words.proofs.answer.answer_words.Tie as tie
 
@@ -61,7 +65,10 @@ returns-6 : tie.Need-returns-6
 returns-6 c = rw (c .enum-told4 .given .1)
 
 returns-7 : tie.Need-returns-7
-returns-7 c = rw (c .before .before .answer3 .given .1, c .bits .ensures)
+returns-7 c =
+    let d = c .before .before .answer3 .given .0 .0 in
+    let fits : mag d < 2 ^ 63 = omega arith in
+    rw (c .before .before .answer3 .given .1, c .bits .ensures, back d fits)
 
 returns-8 : tie.Need-returns-8
 returns-8 c = rw (c .before .before .answer4 .given .1, c .shortage-number .ensures)

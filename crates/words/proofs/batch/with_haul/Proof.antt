@@ -1,5 +1,6 @@
 -- Each arm of `with_haul` is its clause, and the steps are told apart by their numbers.
 use borrow.Author.Needs.{needs}
+use Rattle.words.proofs.Steps.{hand-told}
 use Rattle.words.proofs.batch.with_haul.Statement.{statement}
 use Rattle.words.proofs.batch.with_haul.Tie as tie
 
@@ -19,7 +20,10 @@ with-ring-requires : tie.Need-with-ring-requires
 with-ring-requires c κs = search needs
 
 returns : tie.Need-returns
-returns c = rw (c .with-ring .ensures, c .before .held-word .ensures, c .before .before .hand-word .ensures) (rw (c .before .before .before .index-word2 .ensures .0, c .before .before .before .before .index-word .ensures .0), rw (c .before .before .before .index-word2 .ensures .1, c .before .before .before .before .index-word .ensures .1))
+returns c = 
+    rw
+    (c .with-ring .ensures, c .before .held-word .ensures, c .before .before .hand-word .ensures)
+    (rw (c .before .before .before .index-word2 .ensures .0, c .before .before .before .before .index-word .ensures .0), rw (hand-told _, c .before .before .before .index-word2 .ensures .1, c .before .before .before .before .index-word .ensures .1))
 
 pub with-haul-spec : {M : Type 1} → statement M
 with-haul-spec =

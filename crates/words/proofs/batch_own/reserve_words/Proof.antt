@@ -1,6 +1,8 @@
 -- Each arm of `reserve_words` is its clause, and the steps are told apart by their numbers.
 use mathlib.Core.Path.{refl}
 use borrow.Author.Needs.{needs}
+use Rattle.words.specs.Resize.{resizeOf}
+use Rattle.words.proofs.Steps.{told, reserve-resize}
 use Rattle.words.proofs.batch_own.reserve_words.Statement.{statement}
 use Rattle.words.proofs.batch_own.reserve_words.Tie as tie
 
@@ -32,7 +34,7 @@ resize-words-requires : tie.Need-resize-words-requires
 resize-words-requires c κs = search needs
 
 returns-3 : tie.Need-returns-3
-returns-3 c = ?
+returns-3 c = rw (c .before .before .at2 .given .1, c .resize-words .ensures .0) (refl, reserve-resize _ (told resizeOf (c .resize-words .ensures)))
 
 pub reserve-words-spec : {M : Type 1} → statement M
 reserve-words-spec =

@@ -1,6 +1,9 @@
 -- Each arm of `push_words` is its clause, and the steps are told apart by their numbers.
 use mathlib.Core.Path.{refl}
 use borrow.Author.Needs.{needs}
+use Rattle.words.specs.Slots.{indexOf}
+use Rattle.words.specs.Resize.{resizeOf}
+use Rattle.words.proofs.Steps.{told, push-resize}
 use Rattle.words.proofs.push.push_words.Statement.{statement}
 use Rattle.words.proofs.push.push_words.Tie as tie
 
@@ -35,7 +38,10 @@ index-word-requires-2 : tie.Need-index-word-requires-2
 index-word-requires-2 c κs = search needs
 
 returns-3 : tie.Need-returns-3
-returns-3 c = ?
+returns-3 c = 
+    rw
+    (c .before .before .before .at2 .given .1, c .before .resize-words .ensures .0, c .index-word2 .ensures .0)
+    (refl, push-resize _ _ (told indexOf (c .index-word2 .ensures)) (told resizeOf (c .before .resize-words .ensures)))
 
 enum-known-at-3 : tie.Need-enum-known-at-3
 enum-known-at-3 c = search needs

@@ -1,6 +1,7 @@
 -- Each arm of `stage_words` is its clause, and the steps are told apart by their numbers.
-use mathlib.Core.Path.{refl}
+use mathlib.Core.Path.{refl, ap}
 use borrow.Author.Needs.{needs}
+use Rattle.core.specs.declared.stage.Stage.the-variants.{Push, Pop, Steal, Length, OwnBatch, BatchSource, BatchOwn}
 use Rattle.words.proofs.stage.stage_words.Statement.{statement}
 use Rattle.words.proofs.stage.stage_words.Tie as tie
 
@@ -20,7 +21,7 @@ push-words-requires : tie.Need-push-words-requires
 push-words-requires c κs = search needs
 
 returns-2 : tie.Need-returns-2
-returns-2 c = ?
+returns-2 c = rw (c .before .before .stage .given .1) (rw (c .push-words .ensures .0), ap (Push (c .before .before .stage .given .0 .0)) (c .push-words .ensures .1))
 
 enum-known-stage-2 : tie.Need-enum-known-stage-2
 enum-known-stage-2 c = search needs
@@ -32,7 +33,12 @@ popper-word-requires : tie.Need-popper-word-requires
 popper-word-requires c κs = search needs
 
 returns-3 : tie.Need-returns-3
-returns-3 c = ?
+returns-3 c = 
+    let p = c .popper-word .ensures .1 in
+    let q = c .before .pop-words .ensures .1 in
+    rw
+    (c .before .before .before .stage2 .given .1)
+    (rw (c .popper-word .ensures .0, c .before .pop-words .ensures .0), λ i. Pop (p i) (q i))
 
 enum-known-stage-3 : tie.Need-enum-known-stage-3
 enum-known-stage-3 c = search needs
@@ -41,7 +47,7 @@ steal-words-requires : tie.Need-steal-words-requires
 steal-words-requires c κs = search needs
 
 returns-4 : tie.Need-returns-4
-returns-4 c = ?
+returns-4 c = rw (c .before .before .stage3 .given .1) (rw (c .steal-words .ensures .0), ap (Steal (c .before .before .stage3 .given .0 .0)) (c .steal-words .ensures .1))
 
 enum-known-stage-4 : tie.Need-enum-known-stage-4
 enum-known-stage-4 c = search needs
@@ -50,7 +56,7 @@ length-words-requires : tie.Need-length-words-requires
 length-words-requires c κs = search needs
 
 returns-5 : tie.Need-returns-5
-returns-5 c = ?
+returns-5 c = rw (c .before .before .stage4 .given .1) (rw (c .length-words .ensures .0), ap (Length (c .before .before .stage4 .given .0 .0)) (c .length-words .ensures .1))
 
 enum-known-stage-5 : tie.Need-enum-known-stage-5
 enum-known-stage-5 c = search needs
@@ -59,7 +65,7 @@ length-words-requires-2 : tie.Need-length-words-requires-2
 length-words-requires-2 c κs = search needs
 
 returns-6 : tie.Need-returns-6
-returns-6 c = ?
+returns-6 c = rw (c .before .before .stage5 .given .1) (rw (c .length-words2 .ensures .0), ap OwnBatch (c .length-words2 .ensures .1))
 
 enum-known-stage-6 : tie.Need-enum-known-stage-6
 enum-known-stage-6 c = search needs
@@ -68,7 +74,7 @@ source-words-requires : tie.Need-source-words-requires
 source-words-requires c κs = search needs
 
 returns-7 : tie.Need-returns-7
-returns-7 c = ?
+returns-7 c = rw (c .before .before .stage6 .given .1) (rw (c .source-words .ensures .0), ap (BatchSource (c .before .before .stage6 .given .0 .0)) (c .source-words .ensures .1))
 
 enum-known-stage-7 : tie.Need-enum-known-stage-7
 enum-known-stage-7 c = search needs
@@ -77,7 +83,7 @@ own-words-requires : tie.Need-own-words-requires
 own-words-requires c κs = search needs
 
 returns-8 : tie.Need-returns-8
-returns-8 c = ?
+returns-8 c = rw (c .before .before .stage7 .given .1) (rw (c .own-words .ensures .0), ap (BatchOwn (c .before .before .stage7 .given .0 .0)) (c .own-words .ensures .1))
 
 pub stage-words-spec : {M : Type 1} → statement M
 stage-words-spec =
