@@ -64,8 +64,20 @@ same-stage v w e =
     let c = four (v .end) (v .job) (v .far) (v .hand) (w .end) (w .job) (w .far) (w .hand) (t3 .0) in
     let d = four (v .held) (v .ring) (v .place) (v .capacity) (w .held) (w .ring) (w .place) (w .capacity) (t3 .1) in
     λ i. record {
-      operation = a .first i; number = a .second i; kind = a .third i; step = a .fourth i;
-      f = b .first i; b = b .second i; n = b .third i; i = b .fourth i;
-      end = c .first i; job = c .second i; far = c .third i; hand = c .fourth i;
-      held = d .first i; ring = d .second i; place = d .third i; capacity = d .fourth i
+      operation = a .first i;
+      number = a .second i;
+      kind = a .third i;
+      step = a .fourth i;
+      f = b .first i;
+      b = b .second i;
+      n = b .third i;
+      i = b .fourth i;
+      end = c .first i;
+      job = c .second i;
+      far = c .third i;
+      hand = c .fourth i;
+      held = d .first i;
+      ring = d .second i;
+      place = d .third i;
+      capacity = d .fourth i;
     }

@@ -28,7 +28,7 @@ use Rattle.core.specs.declared.stage.SwapStage.the-variants as X
 use Rattle.core.specs.declared.stage.PutStage.{PutStage}
 use Rattle.core.specs.declared.stage.PutStage.the-variants as W
 use Rattle.core.specs.declared.stage.OwnStage.the-variants as O
-use Rattle.words.specs.Slots.{indexWord, indexOf, withB, withCount, withJob}
+use Rattle.words.specs.Slots.{indexWord, indexOf, bare, withB, withCount, withJob}
 use Rattle.words.specs.Resize.{resizeWords, resizeOf}
 use Rattle.words.specs.Push.{pushOf}
 use Rattle.words.specs.Pop.{fifoWords, fifoOf, lifoWords, lifoOf, popOf}
@@ -37,13 +37,13 @@ use Rattle.words.specs.BatchSource.{allWords, allOf, oneWords, oneOf, ta
 use Rattle.words.specs.BatchOwn.{reserveWords, reserveOf, swapWords, swapOf, putWords, putOf, ownOf}
 
 -- what a call ensures of the words that it gave holds of the words by definition
-pub told : {A B : Type 0} (of : A → B) {v w : A} {x : B} → (v ≡ w) × (of v ≡ x) → of w ≡ x
-told of h = sym (ap of (h .0)) ∙ h .1
+pub tells : {A B : Type 0} (of : A → B) {v w : A} {x : B} → (v ≡ w) × (of v ≡ x) → of w ≡ x
+tells of h = sym (ap of (h .0)) ∙ h .1
 
 -- ---- a push
 
 pub push-resize :
-  (b : Index) (z : ResizeStage) → indexOf (indexWord b) ≡ b → resizeOf (resizeWords z) ≡ z → pushOf (withB b (resizeWords z)) ≡ U.Resize b z
+    (b : Index) (z : ResizeStage) → indexOf (indexWord b) ≡ b → resizeOf (resizeWords z) ≡ z → pushOf (withB b (resizeWords z)) ≡ U.Resize b z
 push-resize b z p q = go z ∙ (λ i. U.Resize (p i) (q i))
   where
     go : (z : ResizeStage) → pushOf (withB b (resizeWords z)) ≡ U.Resize (indexOf (indexWord b)) (resizeOf (resizeWords z))
@@ -111,9 +111,14 @@ take-one s p = go s ∙ ap T.One p
     go (E.ReloadRing i job) = refl
     go (E.Exchange i job) = refl
 
+pub source-load-ring :
+    (h : Wanted) (b : Index) →
+    wantedOf (withWanted h (bare 2)) ≡ h → indexOf (indexWord b) ≡ b → sourceOf (withB b (withWanted h (bare 2))) ≡ S.LoadRing h b
+source-load-ring h b p q = λ i. S.LoadRing (p i) (q i)
+
 pub source-take :
-  (h : Haul) (s : TakeStage) →
-  haulOf (withHaul h (takeWords s)) ≡ h → takeOf (takeWords s) ≡ s → sourceOf (withHaul h (takeWords s)) ≡ S.Take h s
+    (h : Haul) (s : TakeStage) →
+    haulOf (withHaul h (takeWords s)) ≡ h → takeOf (takeWords s) ≡ s → sourceOf (withHaul h (takeWords s)) ≡ S.Take h s
 source-take h s p q = go s ∙ (λ i. S.Take (p i) (q i))
   where
     go : (s : TakeStage) → sourceOf (withHaul h (takeWords s)) ≡ S.Take (haulOf (withHaul h (takeWords s))) (takeOf (takeWords s))
@@ -148,8 +153,8 @@ put-swap x s p = go s ∙ ap (W.Swap x) p
     go (X.WriteFar near) = refl
 
 pub own-reserve :
-  (h : Wanted) (s : ReserveStage) →
-  wantedOf (withWanted h (reserveWords s)) ≡ h → reserveOf (reserveWords s) ≡ s → ownOf (withWanted h (reserveWords s)) ≡ O.Reserve h s
+    (h : Wanted) (s : ReserveStage) →
+    wantedOf (withWanted h (reserveWords s)) ≡ h → reserveOf (reserveWords s) ≡ s → ownOf (withWanted h (reserveWords s)) ≡ O.Reserve h s
 own-reserve h s p q = go s ∙ (λ i. O.Reserve (p i) (q i))
   where
     go : (s : ReserveStage) → ownOf (withWanted h (reserveWords s)) ≡ O.Reserve (wantedOf (withWanted h (reserveWords s))) (reserveOf (reserveWords s))
@@ -161,7 +166,7 @@ own-reserve h s p q = go s ∙ (λ i. O.Reserve (p i) (q i))
     go (Y.Resize (Z.Swap ring)) = refl
 
 pub own-put :
-  (h : Haul) (s : PutStage) → haulOf (withHaul h (putWords s)) ≡ h → putOf (putWords s) ≡ s → ownOf (withHaul h (putWords s)) ≡ O.Put h s
+    (h : Haul) (s : PutStage) → haulOf (withHaul h (putWords s)) ≡ h → putOf (putWords s) ≡ s → ownOf (withHaul h (putWords s)) ≡ O.Put h s
 own-put h s p q = go s ∙ (λ i. O.Put (p i) (q i))
   where
     go : (s : PutStage) → ownOf (withHaul h (putWords s)) ≡ O.Put (haulOf (withHaul h (putWords s))) (putOf (putWords s))

@@ -30,7 +30,7 @@ swapWords (X.WriteFar near) = withJob near (bare 43)
 
 abbrev pub swapOf : StageWords → SwapStage
 swapOf w =
-    pick (eqb (w .step) 40) (X.ReadNear)
+    pick (eqb (w .step) 40) X.ReadNear
     (pick (eqb (w .step) 41) (X.ReadFar (w .job))
     (pick (eqb (w .step) 42) (X.WriteNear (w .job) (w .far))
     (X.WriteFar (w .job))))
@@ -45,7 +45,7 @@ abbrev pub putOf : StageWords → PutStage
 putOf w =
     pick (eqb (w .step) 30) (W.WriteCopy (w .i) (w .job))
     (pick (eqb (w .step) 31) (W.WriteOne (w .i) (w .job))
-    (pick (eqb (w .step) 32) (W.StoreBack)
+    (pick (eqb (w .step) 32) W.StoreBack
     (W.Swap (w .i) (swapOf w))))
 
 abbrev pub ownWords : OwnStage → StageWords

@@ -30,7 +30,7 @@ fifoWords (D.Read f seen) = withN seen (withF f (bare 4))
 
 abbrev pub fifoOf : StageWords → FifoPopStage
 fifoOf w =
-    pick (eqb (w .step) 0) (D.LoadBack)
+    pick (eqb (w .step) 0) D.LoadBack
     (pick (eqb (w .step) 1) (D.LoadFront (indexOf (w .b)))
     (pick (eqb (w .step) 2) (D.FetchAdd (indexOf (w .b)) (w .n))
     (pick (eqb (w .step) 3) (D.RestoreFront (indexOf (w .f)))
@@ -49,7 +49,7 @@ lifoWords (L.Read b left) = withN left (withB b (bare 28))
 
 abbrev pub lifoOf : StageWords → LifoPopStage
 lifoOf w =
-    pick (eqb (w .step) 20) (L.LoadBack)
+    pick (eqb (w .step) 20) L.LoadBack
     (pick (eqb (w .step) 21) (L.LoadFront (indexOf (w .b)))
     (pick (eqb (w .step) 22) (L.StoreBack (indexOf (w .b)))
     (pick (eqb (w .step) 23) (L.ReloadFront (indexOf (w .b)))

@@ -16,7 +16,7 @@ stealWords (Exchange f ring job) = withRing ring (withJob job (withF f (bare 5))
 
 abbrev pub stealOf : StageWords → StealStage
 stealOf w =
-    pick (eqb (w .step) 0) (LoadFront)
+    pick (eqb (w .step) 0) LoadFront
     (pick (eqb (w .step) 1) (LoadBack (indexOf (w .f)))
     (pick (eqb (w .step) 2) (LoadRing (indexOf (w .f)))
     (pick (eqb (w .step) 3) (Read (indexOf (w .f)) (ringOf w))

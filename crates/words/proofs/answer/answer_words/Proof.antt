@@ -1,4 +1,4 @@
--- Field by field, by what the calls of `answer_words` ensure.
+-- Each arm is the clause of `told` for its answer; the difference of a length fits, so that its bits are its own.
 use Prim.Native.Nat.{_^_, _<_}
 use native.Mathlib.Omega.{arith}
 use lib.Signed.{mag}

@@ -1,4 +1,4 @@
--- Field by field, by what the calls of `stolen_words` ensure.
+-- Each arm is the clause of `told` for its answer.
 use borrow.Author.Needs.{needs}
 use Rattle.words.proofs.answer.stolen_words.Statement.{statement}
 use Rattle.words.proofs.answer.stolen_words.Tie as tie

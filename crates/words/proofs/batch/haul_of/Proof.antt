@@ -16,7 +16,13 @@ hand-of-requires : tie.Need-hand-of-requires
 hand-of-requires c κs = search needs
 
 returns : tie.Need-returns
-returns c = rw (c .hand-of .ensures, c .before .index-of2 .ensures, c .before .before .index-of .ensures, c .before .before .before .ring-of .ensures)
+returns c =
+    rw (
+      c .hand-of .ensures,
+      c .before .index-of2 .ensures,
+      c .before .before .index-of .ensures,
+      c .before .before .before .ring-of .ensures,
+    )
 
 pub haul-of-spec : {M : Type 1} → statement M
 haul-of-spec =

@@ -1,4 +1,4 @@
--- Each arm of `with_haul` is its clause, and the steps are told apart by their numbers.
+-- Field by field, by what the calls ensure; a hand holds what its two words tell.
 use borrow.Author.Needs.{needs}
 use Rattle.words.proofs.Steps.{hand-told}
 use Rattle.words.proofs.batch.with_haul.Statement.{statement}
@@ -20,7 +20,7 @@ with-ring-requires : tie.Need-with-ring-requires
 with-ring-requires c κs = search needs
 
 returns : tie.Need-returns
-returns c = 
+returns c =
     rw
     (c .with-ring .ensures, c .before .held-word .ensures, c .before .before .hand-word .ensures)
     (rw (c .before .before .before .index-word2 .ensures .0, c .before .before .before .before .index-word .ensures .0), rw (hand-told _, c .before .before .before .index-word2 .ensures .1, c .before .before .before .before .index-word .ensures .1))

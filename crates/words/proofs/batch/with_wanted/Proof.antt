@@ -1,4 +1,4 @@
--- Each arm of `with_wanted` is its clause, and the steps are told apart by their numbers.
+-- Field by field, by what the calls ensure.
 use borrow.Author.Needs.{needs}
 use Rattle.words.proofs.batch.with_wanted.Statement.{statement}
 use Rattle.words.proofs.batch.with_wanted.Tie as tie

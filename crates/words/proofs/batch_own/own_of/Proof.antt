@@ -26,7 +26,13 @@ put-of-requires : tie.Need-put-of-requires
 put-of-requires c κs = search needs
 
 returns-3 : tie.Need-returns-3
-returns-3 c = rw (c .put-of .ensures, c .before .haul-of .ensures, le-ltb _ 20 (c .before .before .before .if1 .left), ne-eqb _ 20 (c .before .before .if2 .left))
+returns-3 c =
+    rw (
+      c .put-of .ensures,
+      c .before .haul-of .ensures,
+      le-ltb _ 20 (c .before .before .before .if1 .left),
+      ne-eqb _ 20 (c .before .before .if2 .left),
+    )
 
 pub own-of-spec : {M : Type 1} → statement M
 own-of-spec =

@@ -2,7 +2,7 @@
 use mathlib.Core.Path.{refl}
 use borrow.Author.Needs.{needs}
 use Rattle.words.specs.BatchOwn.{swapOf}
-use Rattle.words.proofs.Steps.{told, put-swap}
+use Rattle.words.proofs.Steps.{tells, put-swap}
 use Rattle.words.proofs.batch_own.put_words.Statement.{statement}
 use Rattle.words.proofs.batch_own.put_words.Tie as tie
 
@@ -31,7 +31,7 @@ swap-words-requires : tie.Need-swap-words-requires
 swap-words-requires c κs = search needs
 
 returns-3 : tie.Need-returns-3
-returns-3 c = rw (c .before .before .at3 .given .1, c .swap-words .ensures .0) (refl, put-swap _ _ (told swapOf (c .swap-words .ensures)))
+returns-3 c = rw (c .before .before .at3 .given .1, c .swap-words .ensures .0) (refl, put-swap _ _ (tells swapOf (c .swap-words .ensures)))
 
 enum-told : tie.Need-enum-told
 enum-told c = search needs

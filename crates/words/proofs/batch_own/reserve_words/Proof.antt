@@ -2,7 +2,7 @@
 use mathlib.Core.Path.{refl}
 use borrow.Author.Needs.{needs}
 use Rattle.words.specs.Resize.{resizeOf}
-use Rattle.words.proofs.Steps.{told, reserve-resize}
+use Rattle.words.proofs.Steps.{tells, reserve-resize}
 use Rattle.words.proofs.batch_own.reserve_words.Statement.{statement}
 use Rattle.words.proofs.batch_own.reserve_words.Tie as tie
 
@@ -25,7 +25,10 @@ index-word-requires : tie.Need-index-word-requires
 index-word-requires c κs = search needs
 
 returns-2 : tie.Need-returns-2
-returns-2 c = rw (c .before .before .before .at .given .1, c .before .bare2 .ensures) (rw (c .index-word .ensures .0), rw (c .index-word .ensures .1))
+returns-2 c =
+    rw
+    (c .before .before .before .at .given .1, c .before .bare2 .ensures)
+    (rw (c .index-word .ensures .0), rw (c .index-word .ensures .1))
 
 enum-known-at-2 : tie.Need-enum-known-at-2
 enum-known-at-2 c = search needs
@@ -34,7 +37,10 @@ resize-words-requires : tie.Need-resize-words-requires
 resize-words-requires c κs = search needs
 
 returns-3 : tie.Need-returns-3
-returns-3 c = rw (c .before .before .at2 .given .1, c .resize-words .ensures .0) (refl, reserve-resize _ (told resizeOf (c .resize-words .ensures)))
+returns-3 c =
+    rw
+    (c .before .before .at2 .given .1, c .resize-words .ensures .0)
+    (refl, reserve-resize _ (tells resizeOf (c .resize-words .ensures)))
 
 pub reserve-words-spec : {M : Type 1} → statement M
 reserve-words-spec =

@@ -13,10 +13,22 @@ returns-3 : tie.Need-returns-3
 returns-3 c = rw (ne-eqb _ 40 (c .before .before .if1 .left), ne-eqb _ 41 (c .before .if2 .left), eq-eqb _ 42 (c .if3 .taken))
 
 returns-4 : tie.Need-returns-4
-returns-4 c = rw (ne-eqb _ 40 (c .before .before .before .if1 .left), ne-eqb _ 41 (c .before .before .if2 .left), ne-eqb _ 42 (c .before .if3 .left), eq-eqb _ 43 (c .if4 .taken))
+returns-4 c =
+    rw (
+      ne-eqb _ 40 (c .before .before .before .if1 .left),
+      ne-eqb _ 41 (c .before .before .if2 .left),
+      ne-eqb _ 42 (c .before .if3 .left),
+      eq-eqb _ 43 (c .if4 .taken),
+    )
 
 returns-5 : tie.Need-returns-5
-returns-5 c = rw (ne-eqb _ 40 (c .before .before .before .if1 .left), ne-eqb _ 41 (c .before .before .if2 .left), ne-eqb _ 42 (c .before .if3 .left), ne-eqb _ 43 (c .if4 .left))
+returns-5 c =
+    rw (
+      ne-eqb _ 40 (c .before .before .before .if1 .left),
+      ne-eqb _ 41 (c .before .before .if2 .left),
+      ne-eqb _ 42 (c .before .if3 .left),
+      ne-eqb _ 43 (c .if4 .left),
+    )
 
 pub one-of-spec : {M : Type 1} → statement M
 one-of-spec = tie.close (tie.spec returns returns-2 returns-3 returns-4 returns-5)

@@ -17,7 +17,13 @@ index-of-requires : tie.Need-index-of-requires
 index-of-requires c κs = search needs
 
 returns-2 : tie.Need-returns-2
-returns-2 c = rw (c .index-of .ensures, c .before .kind-of2 .ensures, ne-eqb _ 0 (c .before .before .before .if1 .left), eq-eqb _ 1 (c .before .before .if2 .taken))
+returns-2 c =
+    rw (
+      c .index-of .ensures,
+      c .before .kind-of2 .ensures,
+      ne-eqb _ 0 (c .before .before .before .if1 .left),
+      eq-eqb _ 1 (c .before .before .if2 .taken),
+    )
 
 wanted-of-requires : tie.Need-wanted-of-requires
 wanted-of-requires c κs = search needs
@@ -26,7 +32,14 @@ index-of-requires-2 : tie.Need-index-of-requires-2
 index-of-requires-2 c κs = search needs
 
 returns-3 : tie.Need-returns-3
-returns-3 c = rw (c .index-of2 .ensures, c .before .wanted-of .ensures, ne-eqb _ 0 (c .before .before .before .before .if1 .left), ne-eqb _ 1 (c .before .before .before .if2 .left), eq-eqb _ 2 (c .before .before .if3 .taken))
+returns-3 c =
+    rw (
+      c .index-of2 .ensures,
+      c .before .wanted-of .ensures,
+      ne-eqb _ 0 (c .before .before .before .before .if1 .left),
+      ne-eqb _ 1 (c .before .before .before .if2 .left),
+      eq-eqb _ 2 (c .before .before .if3 .taken),
+    )
 
 haul-of-requires : tie.Need-haul-of-requires
 haul-of-requires c κs = search needs
@@ -35,7 +48,14 @@ take-of-requires : tie.Need-take-of-requires
 take-of-requires c κs = search needs
 
 returns-4 : tie.Need-returns-4
-returns-4 c = rw (c .take-of .ensures, c .before .haul-of .ensures, ne-eqb _ 0 (c .before .before .before .before .if1 .left), ne-eqb _ 1 (c .before .before .before .if2 .left), ne-eqb _ 2 (c .before .before .if3 .left))
+returns-4 c =
+    rw (
+      c .take-of .ensures,
+      c .before .haul-of .ensures,
+      ne-eqb _ 0 (c .before .before .before .before .if1 .left),
+      ne-eqb _ 1 (c .before .before .before .if2 .left),
+      ne-eqb _ 2 (c .before .before .if3 .left),
+    )
 
 pub source-of-spec : {M : Type 1} → statement M
 source-of-spec =

@@ -1,11 +1,10 @@
 -- Each arm of `source_words` is its clause, and the steps are told apart by their numbers.
 use mathlib.Core.Path.{refl}
 use borrow.Author.Needs.{needs}
-use Rattle.core.specs.declared.stage.SourceStage.the-variants.{LoadRing}
 use Rattle.words.specs.Slots.{indexOf}
 use Rattle.words.specs.Batch.{wantedOf, haulOf}
 use Rattle.words.specs.BatchSource.{takeOf}
-use Rattle.words.proofs.Steps.{told, source-take}
+use Rattle.words.proofs.Steps.{tells, source-load-ring, source-take}
 use Rattle.words.proofs.batch_source.source_words.Statement.{statement}
 use Rattle.words.proofs.batch_source.source_words.Tie as tie
 
@@ -19,7 +18,10 @@ kind-word-requires : tie.Need-kind-word-requires
 kind-word-requires c κs = search needs
 
 returns : tie.Need-returns
-returns c = rw (c .before .before .before .at .given .1, c .before .bare .ensures) (rw (c .kind-word .ensures .0), rw (c .kind-word .ensures .1))
+returns c =
+    rw
+    (c .before .before .before .at .given .1, c .before .bare .ensures)
+    (rw (c .kind-word .ensures .0), rw (c .kind-word .ensures .1))
 
 enum-known-at-2 : tie.Need-enum-known-at-2
 enum-known-at-2 c = search needs
@@ -34,7 +36,10 @@ index-word-requires : tie.Need-index-word-requires
 index-word-requires c κs = search needs
 
 returns-2 : tie.Need-returns-2
-returns-2 c = rw (c .before .before .before .before .at2 .given .1, c .before .before .bare2 .ensures) (rw (c .index-word .ensures .0, c .before .kind-word2 .ensures .0), rw (c .index-word .ensures .1, c .before .kind-word2 .ensures .1))
+returns-2 c =
+    rw
+    (c .before .before .before .before .at2 .given .1, c .before .before .bare2 .ensures)
+    (rw (c .index-word .ensures .0, c .before .kind-word2 .ensures .0), rw (c .index-word .ensures .1, c .before .kind-word2 .ensures .1))
 
 enum-known-at-3 : tie.Need-enum-known-at-3
 enum-known-at-3 c = search needs
@@ -49,12 +54,10 @@ index-word-requires-2 : tie.Need-index-word-requires-2
 index-word-requires-2 c κs = search needs
 
 returns-3 : tie.Need-returns-3
-returns-3 c = 
-    let p = told wantedOf (c .before .with-wanted .ensures) in
-    let q = told indexOf (c .index-word2 .ensures) in
+returns-3 c =
     rw
     (c .before .before .before .before .at3 .given .1, c .before .with-wanted .ensures .0, c .index-word2 .ensures .0, c .before .before .bare3 .ensures)
-    (refl, λ i. LoadRing (p i) (q i))
+    (refl, source-load-ring _ _ (tells wantedOf (c .before .with-wanted .ensures)) (tells indexOf (c .index-word2 .ensures)))
 
 enum-known-at-4 : tie.Need-enum-known-at-4
 enum-known-at-4 c = search needs
@@ -66,10 +69,10 @@ with-haul-requires : tie.Need-with-haul-requires
 with-haul-requires c κs = search needs
 
 returns-4 : tie.Need-returns-4
-returns-4 c = 
+returns-4 c =
     rw
     (c .before .before .before .at4 .given .1, c .with-haul .ensures .0, c .before .take-words .ensures .0)
-    (refl, source-take _ _ (told haulOf (c .with-haul .ensures)) (told takeOf (c .before .take-words .ensures)))
+    (refl, source-take _ _ (tells haulOf (c .with-haul .ensures)) (tells takeOf (c .before .take-words .ensures)))
 
 pub source-words-spec : {M : Type 1} → statement M
 source-words-spec =

@@ -2,7 +2,7 @@
 use mathlib.Core.Path.{refl}
 use borrow.Author.Needs.{needs}
 use Rattle.words.specs.BatchSource.{allOf, oneOf}
-use Rattle.words.proofs.Steps.{told, take-all, take-one}
+use Rattle.words.proofs.Steps.{tells, take-all, take-one}
 use Rattle.words.proofs.batch_source.take_words.Statement.{statement}
 use Rattle.words.proofs.batch_source.take_words.Tie as tie
 
@@ -22,7 +22,7 @@ all-words-requires : tie.Need-all-words-requires
 all-words-requires c κs = search needs
 
 returns-2 : tie.Need-returns-2
-returns-2 c = rw (c .before .before .at .given .1, c .all-words .ensures .0) (refl, take-all _ (told allOf (c .all-words .ensures)))
+returns-2 c = rw (c .before .before .at .given .1, c .all-words .ensures .0) (refl, take-all _ (tells allOf (c .all-words .ensures)))
 
 enum-known-at-2 : tie.Need-enum-known-at-2
 enum-known-at-2 c = search needs
@@ -31,7 +31,7 @@ one-words-requires : tie.Need-one-words-requires
 one-words-requires c κs = search needs
 
 returns-3 : tie.Need-returns-3
-returns-3 c = rw (c .before .before .at2 .given .1, c .one-words .ensures .0) (refl, take-one _ (told oneOf (c .one-words .ensures)))
+returns-3 c = rw (c .before .before .at2 .given .1, c .one-words .ensures .0) (refl, take-one _ (tells oneOf (c .one-words .ensures)))
 
 pub take-words-spec : {M : Type 1} → statement M
 take-words-spec =

@@ -23,7 +23,10 @@ index-word-requires : tie.Need-index-word-requires
 index-word-requires c κs = search needs
 
 returns-2 : tie.Need-returns-2
-returns-2 c = rw (c .before .before .before .at .given .1, c .before .bare2 .ensures) (rw (c .index-word .ensures .0), rw (c .index-word .ensures .1))
+returns-2 c =
+    rw
+    (c .before .before .before .at .given .1, c .before .bare2 .ensures)
+    (rw (c .index-word .ensures .0), rw (c .index-word .ensures .1))
 
 pub length-words-spec : {M : Type 1} → statement M
 length-words-spec =

@@ -23,7 +23,10 @@ index-word-requires : tie.Need-index-word-requires
 index-word-requires c κs = search needs
 
 returns-2 : tie.Need-returns-2
-returns-2 c = rw (c .before .before .before .at .given .1, c .before .bare2 .ensures) (rw (c .index-word .ensures .0), rw (c .index-word .ensures .1))
+returns-2 c =
+    rw
+    (c .before .before .before .at .given .1, c .before .bare2 .ensures)
+    (rw (c .index-word .ensures .0), rw (c .index-word .ensures .1))
 
 enum-known-at-2 : tie.Need-enum-known-at-2
 enum-known-at-2 c = search needs
@@ -35,7 +38,10 @@ index-word-requires-2 : tie.Need-index-word-requires-2
 index-word-requires-2 c κs = search needs
 
 returns-3 : tie.Need-returns-3
-returns-3 c = rw (c .before .before .before .at2 .given .1, c .before .bare3 .ensures) (rw (c .index-word2 .ensures .0), rw (c .index-word2 .ensures .1))
+returns-3 c =
+    rw
+    (c .before .before .before .at2 .given .1, c .before .bare3 .ensures)
+    (rw (c .index-word2 .ensures .0), rw (c .index-word2 .ensures .1))
 
 enum-known-at-3 : tie.Need-enum-known-at-3
 enum-known-at-3 c = search needs
@@ -47,7 +53,10 @@ index-word-requires-3 : tie.Need-index-word-requires-3
 index-word-requires-3 c κs = search needs
 
 returns-4 : tie.Need-returns-4
-returns-4 c = rw (c .before .before .before .at3 .given .1, c .before .bare4 .ensures) (rw (c .index-word3 .ensures .0), rw (c .index-word3 .ensures .1))
+returns-4 c =
+    rw
+    (c .before .before .before .at3 .given .1, c .before .bare4 .ensures)
+    (rw (c .index-word3 .ensures .0), rw (c .index-word3 .ensures .1))
 
 enum-known-at-4 : tie.Need-enum-known-at-4
 enum-known-at-4 c = search needs
@@ -59,7 +68,10 @@ index-word-requires-4 : tie.Need-index-word-requires-4
 index-word-requires-4 c κs = search needs
 
 returns-5 : tie.Need-returns-5
-returns-5 c = rw (c .before .before .before .at4 .given .1, c .before .bare5 .ensures) (rw (c .index-word4 .ensures .0), rw (c .index-word4 .ensures .1))
+returns-5 c =
+    rw
+    (c .before .before .before .at4 .given .1, c .before .bare5 .ensures)
+    (rw (c .index-word4 .ensures .0), rw (c .index-word4 .ensures .1))
 
 pub fifo-words-spec : {M : Type 1} → statement M
 fifo-words-spec =

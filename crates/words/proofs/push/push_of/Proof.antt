@@ -17,13 +17,26 @@ index-of-requires-2 : tie.Need-index-of-requires-2
 index-of-requires-2 c κs = search needs
 
 returns-3 : tie.Need-returns-3
-returns-3 c = rw (c .index-of2 .ensures, ne-eqb _ 0 (c .before .before .before .if1 .left), ne-eqb _ 1 (c .before .before .if2 .left), eq-eqb _ 2 (c .before .if3 .taken))
+returns-3 c =
+    rw (
+      c .index-of2 .ensures,
+      ne-eqb _ 0 (c .before .before .before .if1 .left),
+      ne-eqb _ 1 (c .before .before .if2 .left),
+      eq-eqb _ 2 (c .before .if3 .taken),
+    )
 
 index-of-requires-3 : tie.Need-index-of-requires-3
 index-of-requires-3 c κs = search needs
 
 returns-4 : tie.Need-returns-4
-returns-4 c = rw (c .index-of3 .ensures, ne-eqb _ 0 (c .before .before .before .before .if1 .left), ne-eqb _ 1 (c .before .before .before .if2 .left), ne-eqb _ 2 (c .before .before .if3 .left), eq-eqb _ 3 (c .before .if4 .taken))
+returns-4 c =
+    rw (
+      c .index-of3 .ensures,
+      ne-eqb _ 0 (c .before .before .before .before .if1 .left),
+      ne-eqb _ 1 (c .before .before .before .if2 .left),
+      ne-eqb _ 2 (c .before .before .if3 .left),
+      eq-eqb _ 3 (c .before .if4 .taken),
+    )
 
 resize-of-requires : tie.Need-resize-of-requires
 resize-of-requires c κs = search needs
@@ -32,7 +45,15 @@ index-of-requires-4 : tie.Need-index-of-requires-4
 index-of-requires-4 c κs = search needs
 
 returns-5 : tie.Need-returns-5
-returns-5 c = rw (c .index-of4 .ensures, c .before .resize-of .ensures, ne-eqb _ 0 (c .before .before .before .before .before .if1 .left), ne-eqb _ 1 (c .before .before .before .before .if2 .left), ne-eqb _ 2 (c .before .before .before .if3 .left), ne-eqb _ 3 (c .before .before .if4 .left))
+returns-5 c =
+    rw (
+      c .index-of4 .ensures,
+      c .before .resize-of .ensures,
+      ne-eqb _ 0 (c .before .before .before .before .before .if1 .left),
+      ne-eqb _ 1 (c .before .before .before .before .if2 .left),
+      ne-eqb _ 2 (c .before .before .before .if3 .left),
+      ne-eqb _ 3 (c .before .before .if4 .left),
+    )
 
 pub push-of-spec : {M : Type 1} → statement M
 push-of-spec =

@@ -3,7 +3,7 @@ use mathlib.Core.Path.{refl}
 use borrow.Author.Needs.{needs}
 use Rattle.words.specs.Slots.{indexOf}
 use Rattle.words.specs.Resize.{resizeOf}
-use Rattle.words.proofs.Steps.{told, push-resize}
+use Rattle.words.proofs.Steps.{tells, push-resize}
 use Rattle.words.proofs.push.push_words.Statement.{statement}
 use Rattle.words.proofs.push.push_words.Tie as tie
 
@@ -26,7 +26,10 @@ index-word-requires : tie.Need-index-word-requires
 index-word-requires c κs = search needs
 
 returns-2 : tie.Need-returns-2
-returns-2 c = rw (c .before .before .before .at .given .1, c .before .bare2 .ensures) (rw (c .index-word .ensures .0), rw (c .index-word .ensures .1))
+returns-2 c =
+    rw
+    (c .before .before .before .at .given .1, c .before .bare2 .ensures)
+    (rw (c .index-word .ensures .0), rw (c .index-word .ensures .1))
 
 enum-known-at-2 : tie.Need-enum-known-at-2
 enum-known-at-2 c = search needs
@@ -38,10 +41,10 @@ index-word-requires-2 : tie.Need-index-word-requires-2
 index-word-requires-2 c κs = search needs
 
 returns-3 : tie.Need-returns-3
-returns-3 c = 
+returns-3 c =
     rw
     (c .before .before .before .at2 .given .1, c .before .resize-words .ensures .0, c .index-word2 .ensures .0)
-    (refl, push-resize _ _ (told indexOf (c .index-word2 .ensures)) (told resizeOf (c .before .resize-words .ensures)))
+    (refl, push-resize _ _ (tells indexOf (c .index-word2 .ensures)) (tells resizeOf (c .before .resize-words .ensures)))
 
 enum-known-at-3 : tie.Need-enum-known-at-3
 enum-known-at-3 c = search needs
@@ -53,7 +56,10 @@ index-word-requires-3 : tie.Need-index-word-requires-3
 index-word-requires-3 c κs = search needs
 
 returns-4 : tie.Need-returns-4
-returns-4 c = rw (c .before .before .before .at3 .given .1, c .before .bare3 .ensures) (rw (c .index-word3 .ensures .0), rw (c .index-word3 .ensures .1))
+returns-4 c =
+    rw
+    (c .before .before .before .at3 .given .1, c .before .bare3 .ensures)
+    (rw (c .index-word3 .ensures .0), rw (c .index-word3 .ensures .1))
 
 enum-known-at-4 : tie.Need-enum-known-at-4
 enum-known-at-4 c = search needs
@@ -65,7 +71,10 @@ index-word-requires-4 : tie.Need-index-word-requires-4
 index-word-requires-4 c κs = search needs
 
 returns-5 : tie.Need-returns-5
-returns-5 c = rw (c .before .before .before .at4 .given .1, c .before .bare4 .ensures) (rw (c .index-word4 .ensures .0), rw (c .index-word4 .ensures .1))
+returns-5 c =
+    rw
+    (c .before .before .before .at4 .given .1, c .before .bare4 .ensures)
+    (rw (c .index-word4 .ensures .0), rw (c .index-word4 .ensures .1))
 
 pub push-words-spec : {M : Type 1} → statement M
 push-words-spec =

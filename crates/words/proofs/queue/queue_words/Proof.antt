@@ -1,4 +1,4 @@
--- Each arm of `queue_words` is its clause, and the steps are told apart by their numbers.
+-- Field by field, by what the calls ensure.
 use borrow.Author.Needs.{needs}
 use Rattle.words.proofs.queue.queue_words.Statement.{statement}
 use Rattle.words.proofs.queue.queue_words.Tie as tie

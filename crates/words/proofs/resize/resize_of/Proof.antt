@@ -23,10 +23,24 @@ index-of-requires-3 : tie.Need-index-of-requires-3
 index-of-requires-3 c κs = search needs
 
 returns-3 : tie.Need-returns-3
-returns-3 c = rw (c .index-of3 .ensures, c .before .index-of2 .ensures, c .before .before .before .ring-of .ensures, ne-eqb _ 10 (c .before .before .before .before .before .if1 .left), ne-eqb _ 11 (c .before .before .before .before .if2 .left), eq-eqb _ 12 (c .before .before .if3 .taken))
+returns-3 c =
+    rw (
+      c .index-of3 .ensures,
+      c .before .index-of2 .ensures,
+      c .before .before .before .ring-of .ensures,
+      ne-eqb _ 10 (c .before .before .before .before .before .if1 .left),
+      ne-eqb _ 11 (c .before .before .before .before .if2 .left),
+      eq-eqb _ 12 (c .before .before .if3 .taken),
+    )
 
 returns-4 : tie.Need-returns-4
-returns-4 c = rw (c .before .ring-of .ensures, ne-eqb _ 10 (c .before .before .before .if1 .left), ne-eqb _ 11 (c .before .before .if2 .left), ne-eqb _ 12 (c .if3 .left))
+returns-4 c =
+    rw (
+      c .before .ring-of .ensures,
+      ne-eqb _ 10 (c .before .before .before .if1 .left),
+      ne-eqb _ 11 (c .before .before .if2 .left),
+      ne-eqb _ 12 (c .if3 .left),
+    )
 
 pub resize-of-spec : {M : Type 1} → statement M
 resize-of-spec =

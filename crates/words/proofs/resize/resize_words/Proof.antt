@@ -1,3 +1,4 @@
+-- Each arm of `resize_words` is its clause, and the steps are told apart by their numbers.
 use mathlib.Core.Path.{refl}
 use borrow.Author.Needs.{needs}
 use Rattle.words.proofs.resize.resize_words.Statement.{statement}
@@ -40,7 +41,10 @@ with-ring-requires : tie.Need-with-ring-requires
 with-ring-requires c κs = search needs
 
 returns-3 : tie.Need-returns-3
-returns-3 c = rw (c .before .before .before .before .before .at3 .given .1, c .with-ring .ensures, c .before .before .before .bare3 .ensures) (rw (c .before .index-word3 .ensures .0, c .before .before .index-word2 .ensures .0), rw (c .before .index-word3 .ensures .1, c .before .before .index-word2 .ensures .1))
+returns-3 c =
+    rw
+    (c .before .before .before .before .before .at3 .given .1, c .with-ring .ensures, c .before .before .before .bare3 .ensures)
+    (rw (c .before .index-word3 .ensures .0, c .before .before .index-word2 .ensures .0), rw (c .before .index-word3 .ensures .1, c .before .before .index-word2 .ensures .1))
 
 enum-known-at-4 : tie.Need-enum-known-at-4
 enum-known-at-4 c = search needs

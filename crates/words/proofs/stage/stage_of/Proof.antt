@@ -1,4 +1,4 @@
--- Each return of `stage_of` stands behind the tests by which `stageOf` picks.
+-- Each return stands behind the tests by which `stageOf` picks its operation.
 use borrow.Author.Needs.{needs}
 use borrow.Author.Tests.{eq-eqb, ne-eqb}
 use Rattle.words.proofs.stage.stage_of.Statement.{statement}
@@ -17,40 +17,95 @@ pop-of-requires : tie.Need-pop-of-requires
 pop-of-requires c κs = search needs
 
 returns-2 : tie.Need-returns-2
-returns-2 c = rw (c .pop-of .ensures, c .before .popper-of .ensures, ne-eqb _ 1 (c .before .before .before .if1 .left), eq-eqb _ 2 (c .before .before .if2 .taken))
+returns-2 c =
+    rw (
+      c .pop-of .ensures,
+      c .before .popper-of .ensures,
+      ne-eqb _ 1 (c .before .before .before .if1 .left),
+      eq-eqb _ 2 (c .before .before .if2 .taken),
+    )
 
 steal-of-requires : tie.Need-steal-of-requires
 steal-of-requires c κs = search needs
 
 returns-3 : tie.Need-returns-3
-returns-3 c = rw (c .steal-of .ensures, ne-eqb _ 1 (c .before .before .before .if1 .left), ne-eqb _ 2 (c .before .before .if2 .left), eq-eqb _ 3 (c .before .if3 .taken))
+returns-3 c =
+    rw (
+      c .steal-of .ensures,
+      ne-eqb _ 1 (c .before .before .before .if1 .left),
+      ne-eqb _ 2 (c .before .before .if2 .left),
+      eq-eqb _ 3 (c .before .if3 .taken),
+    )
 
 length-of-requires : tie.Need-length-of-requires
 length-of-requires c κs = search needs
 
 returns-4 : tie.Need-returns-4
-returns-4 c = rw (c .length-of .ensures, ne-eqb _ 1 (c .before .before .before .before .if1 .left), ne-eqb _ 2 (c .before .before .before .if2 .left), ne-eqb _ 3 (c .before .before .if3 .left), eq-eqb _ 4 (c .before .if4 .taken))
+returns-4 c =
+    rw (
+      c .length-of .ensures,
+      ne-eqb _ 1 (c .before .before .before .before .if1 .left),
+      ne-eqb _ 2 (c .before .before .before .if2 .left),
+      ne-eqb _ 3 (c .before .before .if3 .left),
+      eq-eqb _ 4 (c .before .if4 .taken),
+    )
 
 length-of-requires-2 : tie.Need-length-of-requires-2
 length-of-requires-2 c κs = search needs
 
 returns-5 : tie.Need-returns-5
-returns-5 c = rw (c .length-of2 .ensures, ne-eqb _ 1 (c .before .before .before .before .before .if1 .left), ne-eqb _ 2 (c .before .before .before .before .if2 .left), ne-eqb _ 3 (c .before .before .before .if3 .left), ne-eqb _ 4 (c .before .before .if4 .left), eq-eqb _ 5 (c .before .if5 .taken))
+returns-5 c =
+    rw (
+      c .length-of2 .ensures,
+      ne-eqb _ 1 (c .before .before .before .before .before .if1 .left),
+      ne-eqb _ 2 (c .before .before .before .before .if2 .left),
+      ne-eqb _ 3 (c .before .before .before .if3 .left),
+      ne-eqb _ 4 (c .before .before .if4 .left),
+      eq-eqb _ 5 (c .before .if5 .taken),
+    )
 
 source-of-requires : tie.Need-source-of-requires
 source-of-requires c κs = search needs
 
 returns-6 : tie.Need-returns-6
-returns-6 c = rw (c .source-of .ensures, ne-eqb _ 1 (c .before .before .before .before .before .before .if1 .left), ne-eqb _ 2 (c .before .before .before .before .before .if2 .left), ne-eqb _ 3 (c .before .before .before .before .if3 .left), ne-eqb _ 4 (c .before .before .before .if4 .left), ne-eqb _ 5 (c .before .before .if5 .left), eq-eqb _ 6 (c .before .if6 .taken))
+returns-6 c =
+    rw (
+      c .source-of .ensures,
+      ne-eqb _ 1 (c .before .before .before .before .before .before .if1 .left),
+      ne-eqb _ 2 (c .before .before .before .before .before .if2 .left),
+      ne-eqb _ 3 (c .before .before .before .before .if3 .left),
+      ne-eqb _ 4 (c .before .before .before .if4 .left),
+      ne-eqb _ 5 (c .before .before .if5 .left),
+      eq-eqb _ 6 (c .before .if6 .taken),
+    )
 
 own-of-requires : tie.Need-own-of-requires
 own-of-requires c κs = search needs
 
 returns-7 : tie.Need-returns-7
-returns-7 c = rw (c .own-of .ensures, ne-eqb _ 1 (c .before .before .before .before .before .before .before .if1 .left), ne-eqb _ 2 (c .before .before .before .before .before .before .if2 .left), ne-eqb _ 3 (c .before .before .before .before .before .if3 .left), ne-eqb _ 4 (c .before .before .before .before .if4 .left), ne-eqb _ 5 (c .before .before .before .if5 .left), ne-eqb _ 6 (c .before .before .if6 .left), eq-eqb _ 7 (c .before .if7 .taken))
+returns-7 c =
+    rw (
+      c .own-of .ensures,
+      ne-eqb _ 1 (c .before .before .before .before .before .before .before .if1 .left),
+      ne-eqb _ 2 (c .before .before .before .before .before .before .if2 .left),
+      ne-eqb _ 3 (c .before .before .before .before .before .if3 .left),
+      ne-eqb _ 4 (c .before .before .before .before .if4 .left),
+      ne-eqb _ 5 (c .before .before .before .if5 .left),
+      ne-eqb _ 6 (c .before .before .if6 .left),
+      eq-eqb _ 7 (c .before .if7 .taken),
+    )
 
 returns-8 : tie.Need-returns-8
-returns-8 c = rw (ne-eqb _ 1 (c .before .before .before .before .before .before .if1 .left), ne-eqb _ 2 (c .before .before .before .before .before .if2 .left), ne-eqb _ 3 (c .before .before .before .before .if3 .left), ne-eqb _ 4 (c .before .before .before .if4 .left), ne-eqb _ 5 (c .before .before .if5 .left), ne-eqb _ 6 (c .before .if6 .left), ne-eqb _ 7 (c .if7 .left))
+returns-8 c =
+    rw (
+      ne-eqb _ 1 (c .before .before .before .before .before .before .if1 .left),
+      ne-eqb _ 2 (c .before .before .before .before .before .if2 .left),
+      ne-eqb _ 3 (c .before .before .before .before .if3 .left),
+      ne-eqb _ 4 (c .before .before .before .if4 .left),
+      ne-eqb _ 5 (c .before .before .if5 .left),
+      ne-eqb _ 6 (c .before .if6 .left),
+      ne-eqb _ 7 (c .if7 .left),
+    )
 
 pub stage-of-spec : {M : Type 1} → statement M
 stage-of-spec =

@@ -1,4 +1,4 @@
--- Each arm of `stage_words` is its clause, and the steps are told apart by their numbers.
+-- Each arm is its clause; its operation is known by the number, and its step by what the words of the step tell.
 use mathlib.Core.Path.{refl, ap}
 use borrow.Author.Needs.{needs}
 use Rattle.core.specs.declared.stage.Stage.the-variants.{Push, Pop, Steal, Length, OwnBatch, BatchSource, BatchOwn}
@@ -21,7 +21,10 @@ push-words-requires : tie.Need-push-words-requires
 push-words-requires c κs = search needs
 
 returns-2 : tie.Need-returns-2
-returns-2 c = rw (c .before .before .stage .given .1) (rw (c .push-words .ensures .0), ap (Push (c .before .before .stage .given .0 .0)) (c .push-words .ensures .1))
+returns-2 c =
+    rw
+    (c .before .before .stage .given .1)
+    (rw (c .push-words .ensures .0), ap (Push (c .before .before .stage .given .0 .0)) (c .push-words .ensures .1))
 
 enum-known-stage-2 : tie.Need-enum-known-stage-2
 enum-known-stage-2 c = search needs
@@ -33,7 +36,7 @@ popper-word-requires : tie.Need-popper-word-requires
 popper-word-requires c κs = search needs
 
 returns-3 : tie.Need-returns-3
-returns-3 c = 
+returns-3 c =
     let p = c .popper-word .ensures .1 in
     let q = c .before .pop-words .ensures .1 in
     rw
@@ -47,7 +50,10 @@ steal-words-requires : tie.Need-steal-words-requires
 steal-words-requires c κs = search needs
 
 returns-4 : tie.Need-returns-4
-returns-4 c = rw (c .before .before .stage3 .given .1) (rw (c .steal-words .ensures .0), ap (Steal (c .before .before .stage3 .given .0 .0)) (c .steal-words .ensures .1))
+returns-4 c =
+    rw
+    (c .before .before .stage3 .given .1)
+    (rw (c .steal-words .ensures .0), ap (Steal (c .before .before .stage3 .given .0 .0)) (c .steal-words .ensures .1))
 
 enum-known-stage-4 : tie.Need-enum-known-stage-4
 enum-known-stage-4 c = search needs
@@ -56,7 +62,10 @@ length-words-requires : tie.Need-length-words-requires
 length-words-requires c κs = search needs
 
 returns-5 : tie.Need-returns-5
-returns-5 c = rw (c .before .before .stage4 .given .1) (rw (c .length-words .ensures .0), ap (Length (c .before .before .stage4 .given .0 .0)) (c .length-words .ensures .1))
+returns-5 c =
+    rw
+    (c .before .before .stage4 .given .1)
+    (rw (c .length-words .ensures .0), ap (Length (c .before .before .stage4 .given .0 .0)) (c .length-words .ensures .1))
 
 enum-known-stage-5 : tie.Need-enum-known-stage-5
 enum-known-stage-5 c = search needs
@@ -74,7 +83,10 @@ source-words-requires : tie.Need-source-words-requires
 source-words-requires c κs = search needs
 
 returns-7 : tie.Need-returns-7
-returns-7 c = rw (c .before .before .stage6 .given .1) (rw (c .source-words .ensures .0), ap (BatchSource (c .before .before .stage6 .given .0 .0)) (c .source-words .ensures .1))
+returns-7 c =
+    rw
+    (c .before .before .stage6 .given .1)
+    (rw (c .source-words .ensures .0), ap (BatchSource (c .before .before .stage6 .given .0 .0)) (c .source-words .ensures .1))
 
 enum-known-stage-7 : tie.Need-enum-known-stage-7
 enum-known-stage-7 c = search needs
@@ -83,7 +95,10 @@ own-words-requires : tie.Need-own-words-requires
 own-words-requires c κs = search needs
 
 returns-8 : tie.Need-returns-8
-returns-8 c = rw (c .before .before .stage7 .given .1) (rw (c .own-words .ensures .0), ap (BatchOwn (c .before .before .stage7 .given .0 .0)) (c .own-words .ensures .1))
+returns-8 c =
+    rw
+    (c .before .before .stage7 .given .1)
+    (rw (c .own-words .ensures .0), ap (BatchOwn (c .before .before .stage7 .given .0 .0)) (c .own-words .ensures .1))
 
 pub stage-words-spec : {M : Type 1} → statement M
 stage-words-spec =
