@@ -19,12 +19,13 @@ fn reserve_words(at: ReserveStage) -> StageWords
     ensures { λ r. ⌜ r ≡ reserveWords at ⌝ }
     ensures { λ r. ⌜ reserveOf r ≡ at ⌝ }
 {
+    let mut w = StageWords::bare(0);
     match at {
         ReserveStage::LoadBack => {
-            return StageWords::bare(0);
+            return w;
         }
         ReserveStage::LoadFront { b } => {
-            let mut w = StageWords::bare(1);
+            w.step = 1;
             w.b = index_word(b);
             return w;
         }
@@ -52,23 +53,24 @@ fn swap_words(at: SwapStage) -> StageWords
     ensures { λ r. ⌜ r ≡ swapWords at ⌝ }
     ensures { λ r. ⌜ swapOf r ≡ at ⌝ }
 {
+    let mut w = StageWords::bare(40);
     match at {
         SwapStage::ReadNear => {
-            return StageWords::bare(40);
+            return w;
         }
         SwapStage::ReadFar { near } => {
-            let mut w = StageWords::bare(41);
+            w.step = 41;
             w.job = near;
             return w;
         }
         SwapStage::WriteNear { near, far } => {
-            let mut w = StageWords::bare(42);
+            w.step = 42;
             w.job = near;
             w.far = far;
             return w;
         }
         SwapStage::WriteFar { near } => {
-            let mut w = StageWords::bare(43);
+            w.step = 43;
             w.job = near;
             return w;
         }
@@ -98,26 +100,27 @@ fn put_words(at: PutStage) -> StageWords
     ensures { λ r. ⌜ r ≡ putWords at ⌝ }
     ensures { λ r. ⌜ putOf r ≡ at ⌝ }
 {
+    let mut w = StageWords::bare(30);
     match at {
         PutStage::WriteCopy { i, job } => {
-            let mut w = StageWords::bare(30);
             w.i = i;
             w.job = job;
             return w;
         }
         PutStage::WriteOne { i, job } => {
-            let mut w = StageWords::bare(31);
+            w.step = 31;
             w.i = i;
             w.job = job;
             return w;
         }
         PutStage::Swap { x, at } => {
-            let mut w = swap_words(at);
+            w = swap_words(at);
             w.i = x;
             return w;
         }
         PutStage::StoreBack => {
-            return StageWords::bare(32);
+            w.step = 32;
+            return w;
         }
     }
 }

@@ -19,17 +19,19 @@ fn all_words(at: AllStage) -> StageWords
     ensures { λ r. ⌜ r ≡ allWords at ⌝ }
     ensures { λ r. ⌜ allOf r ≡ at ⌝ }
 {
+    let mut w = StageWords::bare(30);
     match at {
         AllStage::Copy { i } => {
-            let mut w = StageWords::bare(30);
             w.i = i;
             return w;
         }
         AllStage::ReloadRing => {
-            return StageWords::bare(31);
+            w.step = 31;
+            return w;
         }
         AllStage::Exchange => {
-            return StageWords::bare(32);
+            w.step = 32;
+            return w;
         }
     }
 }
@@ -51,30 +53,30 @@ fn one_words(at: OneStage) -> StageWords
     ensures { λ r. ⌜ r ≡ oneWords at ⌝ }
     ensures { λ r. ⌜ oneOf r ≡ at ⌝ }
 {
+    let mut w = StageWords::bare(40);
     match at {
         OneStage::ExchangeFirst { job } => {
-            let mut w = StageWords::bare(40);
             w.job = job;
             return w;
         }
         OneStage::ReloadBack { i } => {
-            let mut w = StageWords::bare(41);
+            w.step = 41;
             w.i = i;
             return w;
         }
         OneStage::Read { i } => {
-            let mut w = StageWords::bare(42);
+            w.step = 42;
             w.i = i;
             return w;
         }
         OneStage::ReloadRing { i, job } => {
-            let mut w = StageWords::bare(43);
+            w.step = 43;
             w.i = i;
             w.job = job;
             return w;
         }
         OneStage::Exchange { i, job } => {
-            let mut w = StageWords::bare(44);
+            w.step = 44;
             w.i = i;
             w.job = job;
             return w;
@@ -137,24 +139,24 @@ pub fn source_words(at: SourceStage) -> StageWords
     ensures { λ r. ⌜ r ≡ sourceWords at ⌝ }
     ensures { λ r. ⌜ sourceOf r ≡ at ⌝ }
 {
+    let mut w = StageWords::bare(0);
     match at {
         SourceStage::LoadFront { kind, others } => {
-            let mut w = StageWords::bare(0);
             w.kind = kind_word(kind);
             w.n = others;
             return w;
         }
         SourceStage::LoadBack { kind, others, f } => {
-            let mut w = StageWords::bare(1);
+            w.step = 1;
             w.kind = kind_word(kind);
             w.n = others;
             w.f = index_word(f);
             return w;
         }
         SourceStage::LoadRing { wanted, b } => {
-            let mut w = with_wanted(StageWords::bare(2), wanted);
+            w.step = 2;
             w.b = index_word(b);
-            return w;
+            return with_wanted(w, wanted);
         }
         SourceStage::Take(haul, at) => {
             return with_haul(take_words(at), haul);

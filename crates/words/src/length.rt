@@ -10,12 +10,13 @@ pub fn length_words(at: LengthStage) -> StageWords
     ensures { λ r. ⌜ r ≡ lengthWords at ⌝ }
     ensures { λ r. ⌜ lengthOf r ≡ at ⌝ }
 {
+    let mut w = StageWords::bare(0);
     match at {
         LengthStage::LoadBack => {
-            return StageWords::bare(0);
+            return w;
         }
         LengthStage::LoadFront { b } => {
-            let mut w = StageWords::bare(1);
+            w.step = 1;
             w.b = index_word(b);
             return w;
         }

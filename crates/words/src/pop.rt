@@ -34,28 +34,29 @@ pub fn fifo_words(at: FifoPopStage) -> StageWords
     ensures { λ r. ⌜ r ≡ fifoWords at ⌝ }
     ensures { λ r. ⌜ fifoOf r ≡ at ⌝ }
 {
+    let mut w = StageWords::bare(0);
     match at {
         FifoPopStage::LoadBack => {
-            return StageWords::bare(0);
+            return w;
         }
         FifoPopStage::LoadFront { b } => {
-            let mut w = StageWords::bare(1);
+            w.step = 1;
             w.b = index_word(b);
             return w;
         }
         FifoPopStage::FetchAdd { b, seen } => {
-            let mut w = StageWords::bare(2);
+            w.step = 2;
             w.b = index_word(b);
             w.n = seen;
             return w;
         }
         FifoPopStage::RestoreFront { f } => {
-            let mut w = StageWords::bare(3);
+            w.step = 3;
             w.f = index_word(f);
             return w;
         }
         FifoPopStage::Read { f, seen } => {
-            let mut w = StageWords::bare(4);
+            w.step = 4;
             w.f = index_word(f);
             w.n = seen;
             return w;
@@ -67,76 +68,73 @@ pub fn fifo_of(w: StageWords) -> FifoPopStage
     ensures { λ r. ⌜ r ≡ fifoOf w ⌝ }
 {
     let step = w.step;
+    let b = index_of(w.b);
+    let f = index_of(w.f);
     if step == 0 {
         return FifoPopStage::LoadBack;
     }
     if step == 1 {
-        return FifoPopStage::LoadFront { b: index_of(w.b) };
+        return FifoPopStage::LoadFront { b };
     }
     if step == 2 {
-        return FifoPopStage::FetchAdd {
-            b: index_of(w.b),
-            seen: w.n,
-        };
+        return FifoPopStage::FetchAdd { b, seen: w.n };
     }
     if step == 3 {
-        return FifoPopStage::RestoreFront { f: index_of(w.f) };
+        return FifoPopStage::RestoreFront { f };
     }
-    FifoPopStage::Read {
-        f: index_of(w.f),
-        seen: w.n,
-    }
+    FifoPopStage::Read { f, seen: w.n }
 }
 
 pub fn lifo_words(at: LifoPopStage) -> StageWords
     ensures { λ r. ⌜ r ≡ lifoWords at ⌝ }
     ensures { λ r. ⌜ lifoOf r ≡ at ⌝ }
 {
+    let mut w = StageWords::bare(20);
     match at {
         LifoPopStage::LoadBack => {
-            return StageWords::bare(20);
+            return w;
         }
         LifoPopStage::LoadFront { b } => {
-            let mut w = StageWords::bare(21);
+            w.step = 21;
             w.b = index_word(b);
             return w;
         }
         LifoPopStage::StoreBack { b } => {
-            let mut w = StageWords::bare(22);
+            w.step = 22;
             w.b = index_word(b);
             return w;
         }
         LifoPopStage::ReloadFront { b } => {
-            let mut w = StageWords::bare(23);
+            w.step = 23;
             w.b = index_word(b);
             return w;
         }
         LifoPopStage::RestoreBack { b } => {
-            let mut w = StageWords::bare(24);
+            w.step = 24;
             w.b = index_word(b);
             return w;
         }
         LifoPopStage::ReadLast { b, f } => {
-            let mut w = StageWords::bare(25);
+            w.step = 25;
             w.b = index_word(b);
             w.f = index_word(f);
             return w;
         }
         LifoPopStage::Exchange { b, f, job } => {
-            let mut w = StageWords::bare(26);
+            w.step = 26;
             w.b = index_word(b);
             w.f = index_word(f);
             w.job = job;
             return w;
         }
         LifoPopStage::RestoreBackWon { b, job } => {
-            let mut w = StageWords::bare(27);
+            w.step = 27;
             w.b = index_word(b);
             w.job = job;
             return w;
         }
         LifoPopStage::Read { b, left } => {
-            let mut w = StageWords::bare(28);
+            w.step = 28;
             w.b = index_word(b);
             w.n = left;
             return w;
@@ -148,44 +146,33 @@ pub fn lifo_of(w: StageWords) -> LifoPopStage
     ensures { λ r. ⌜ r ≡ lifoOf w ⌝ }
 {
     let step = w.step;
+    let b = index_of(w.b);
+    let f = index_of(w.f);
     if step == 20 {
         return LifoPopStage::LoadBack;
     }
     if step == 21 {
-        return LifoPopStage::LoadFront { b: index_of(w.b) };
+        return LifoPopStage::LoadFront { b };
     }
     if step == 22 {
-        return LifoPopStage::StoreBack { b: index_of(w.b) };
+        return LifoPopStage::StoreBack { b };
     }
     if step == 23 {
-        return LifoPopStage::ReloadFront { b: index_of(w.b) };
+        return LifoPopStage::ReloadFront { b };
     }
     if step == 24 {
-        return LifoPopStage::RestoreBack { b: index_of(w.b) };
+        return LifoPopStage::RestoreBack { b };
     }
     if step == 25 {
-        return LifoPopStage::ReadLast {
-            b: index_of(w.b),
-            f: index_of(w.f),
-        };
+        return LifoPopStage::ReadLast { b, f };
     }
     if step == 26 {
-        return LifoPopStage::Exchange {
-            b: index_of(w.b),
-            f: index_of(w.f),
-            job: w.job,
-        };
+        return LifoPopStage::Exchange { b, f, job: w.job };
     }
     if step == 27 {
-        return LifoPopStage::RestoreBackWon {
-            b: index_of(w.b),
-            job: w.job,
-        };
+        return LifoPopStage::RestoreBackWon { b, job: w.job };
     }
-    LifoPopStage::Read {
-        b: index_of(w.b),
-        left: w.n,
-    }
+    LifoPopStage::Read { b, left: w.n }
 }
 
 pub fn pop_words(at: PopStage) -> StageWords

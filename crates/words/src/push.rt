@@ -12,27 +12,28 @@ pub fn push_words(at: PushStage) -> StageWords
     ensures { λ r. ⌜ r ≡ pushWords at ⌝ }
     ensures { λ r. ⌜ pushOf r ≡ at ⌝ }
 {
+    let mut w = StageWords::bare(0);
     match at {
         PushStage::LoadBack => {
-            return StageWords::bare(0);
+            return w;
         }
         PushStage::LoadFront { b } => {
-            let mut w = StageWords::bare(1);
+            w.step = 1;
             w.b = index_word(b);
             return w;
         }
         PushStage::Resize { b, at } => {
-            let mut w = resize_words(at);
+            w = resize_words(at);
             w.b = index_word(b);
             return w;
         }
         PushStage::Write { b } => {
-            let mut w = StageWords::bare(2);
+            w.step = 2;
             w.b = index_word(b);
             return w;
         }
         PushStage::StoreBack { b } => {
-            let mut w = StageWords::bare(3);
+            w.step = 3;
             w.b = index_word(b);
             return w;
         }
@@ -43,21 +44,19 @@ pub fn push_of(w: StageWords) -> PushStage
     ensures { λ r. ⌜ r ≡ pushOf w ⌝ }
 {
     let step = w.step;
+    let b = index_of(w.b);
     if step == 0 {
         return PushStage::LoadBack;
     }
     if step == 1 {
-        return PushStage::LoadFront { b: index_of(w.b) };
+        return PushStage::LoadFront { b };
     }
     if step == 2 {
-        return PushStage::Write { b: index_of(w.b) };
+        return PushStage::Write { b };
     }
     if step == 3 {
-        return PushStage::StoreBack { b: index_of(w.b) };
+        return PushStage::StoreBack { b };
     }
     let at = resize_of(w);
-    PushStage::Resize {
-        b: index_of(w.b),
-        at,
-    }
+    PushStage::Resize { b, at }
 }

@@ -10,26 +10,27 @@ pub fn resize_words(at: ResizeStage) -> StageWords
     ensures { λ r. ⌜ r ≡ resizeWords at ⌝ }
     ensures { λ r. ⌜ resizeOf r ≡ at ⌝ }
 {
+    let mut w = StageWords::bare(10);
     match at {
         ResizeStage::LoadBack { capacity } => {
-            let mut w = StageWords::bare(10);
             w.capacity = capacity as u64;
             return w;
         }
         ResizeStage::LoadFront { capacity, b } => {
-            let mut w = StageWords::bare(11);
+            w.step = 11;
             w.end = index_word(b);
             w.capacity = capacity as u64;
             return w;
         }
         ResizeStage::Copy { b, i, ring } => {
-            let mut w = StageWords::bare(12);
+            w.step = 12;
             w.end = index_word(b);
             w.i = index_word(i);
             return w.with_ring(ring);
         }
         ResizeStage::Swap { ring } => {
-            return StageWords::bare(13).with_ring(ring);
+            w.step = 13;
+            return w.with_ring(ring);
         }
     }
 }
@@ -38,21 +39,18 @@ pub fn resize_of(w: StageWords) -> ResizeStage
     ensures { λ r. ⌜ r ≡ resizeOf w ⌝ }
 {
     let step = w.step;
+    let capacity = w.capacity as usize;
     if step == 10 {
-        return ResizeStage::LoadBack {
-            capacity: w.capacity as usize,
-        };
+        return ResizeStage::LoadBack { capacity };
     }
+    let b = index_of(w.end);
     if step == 11 {
-        return ResizeStage::LoadFront {
-            capacity: w.capacity as usize,
-            b: index_of(w.end),
-        };
+        return ResizeStage::LoadFront { capacity, b };
     }
     let ring = w.ring_of();
     if step == 12 {
         return ResizeStage::Copy {
-            b: index_of(w.end),
+            b,
             i: index_of(w.i),
             ring,
         };

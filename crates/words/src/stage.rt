@@ -22,48 +22,49 @@ pub fn stage_words(stage: Stage) -> StageWords
     ensures { λ r. ⌜ r ≡ stageWords stage ⌝ }
     ensures { λ r. ⌜ stageOf r ≡ stage ⌝ }
 {
+    let mut w = StageWords::bare(0);
     match stage {
         Stage::Idle => {
-            return StageWords::bare(0);
+            return w;
         }
         Stage::Push(job, at) => {
-            let mut w = push_words(at);
+            w = push_words(at);
             w.operation = 1;
             w.number = job;
             return w;
         }
         Stage::Pop(by, at) => {
-            let mut w = pop_words(at);
+            w = pop_words(at);
             w.operation = 2;
             w.number = popper_word(by);
             return w;
         }
         Stage::Steal(source, at) => {
-            let mut w = steal_words(at);
+            w = steal_words(at);
             w.operation = 3;
             w.number = source as u64;
             return w;
         }
         Stage::Length(queue, at) => {
-            let mut w = length_words(at);
+            w = length_words(at);
             w.operation = 4;
             w.number = queue as u64;
             return w;
         }
         Stage::OwnBatch(at) => {
-            let mut w = length_words(at);
+            w = length_words(at);
             w.operation = 5;
             w.number = 0;
             return w;
         }
         Stage::BatchSource(source, at) => {
-            let mut w = source_words(at);
+            w = source_words(at);
             w.operation = 6;
             w.number = source as u64;
             return w;
         }
         Stage::BatchOwn(source, at) => {
-            let mut w = own_words(at);
+            w = own_words(at);
             w.operation = 7;
             w.number = source as u64;
             return w;

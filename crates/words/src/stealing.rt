@@ -10,33 +10,34 @@ pub fn steal_words(at: StealStage) -> StageWords
     ensures { λ r. ⌜ r ≡ stealWords at ⌝ }
     ensures { λ r. ⌜ stealOf r ≡ at ⌝ }
 {
+    let mut w = StageWords::bare(0);
     match at {
         StealStage::LoadFront => {
-            return StageWords::bare(0);
+            return w;
         }
         StealStage::LoadBack { f } => {
-            let mut w = StageWords::bare(1);
+            w.step = 1;
             w.f = index_word(f);
             return w;
         }
         StealStage::LoadRing { f } => {
-            let mut w = StageWords::bare(2);
+            w.step = 2;
             w.f = index_word(f);
             return w;
         }
         StealStage::Read { f, ring } => {
-            let mut w = StageWords::bare(3);
+            w.step = 3;
             w.f = index_word(f);
             return w.with_ring(ring);
         }
         StealStage::ReloadRing { f, ring, job } => {
-            let mut w = StageWords::bare(4);
+            w.step = 4;
             w.f = index_word(f);
             w.job = job;
             return w.with_ring(ring);
         }
         StealStage::Exchange { f, ring, job } => {
-            let mut w = StageWords::bare(5);
+            w.step = 5;
             w.f = index_word(f);
             w.job = job;
             return w.with_ring(ring);

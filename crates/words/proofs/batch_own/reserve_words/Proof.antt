@@ -6,20 +6,17 @@ use Rattle.words.proofs.Steps.{tells, reserve-resize}
 use Rattle.words.proofs.batch_own.reserve_words.Statement.{statement}
 use Rattle.words.proofs.batch_own.reserve_words.Tie as tie
 
-enum-told : tie.Need-enum-told
-enum-told c = search needs
-
 bare-requires : tie.Need-bare-requires
 bare-requires c κs = search needs
 
+enum-told : tie.Need-enum-told
+enum-told c = search needs
+
 returns : tie.Need-returns
-returns c = rw (c .before .enum-told .given .1, c .bare .ensures) (refl, refl)
+returns c = rw (c .enum-told .given .1, c .before .before .bare .ensures) (refl, refl)
 
 enum-known-at : tie.Need-enum-known-at
 enum-known-at c = search needs
-
-bare-requires-2 : tie.Need-bare-requires-2
-bare-requires-2 c κs = search needs
 
 index-word-requires : tie.Need-index-word-requires
 index-word-requires c κs = search needs
@@ -27,7 +24,7 @@ index-word-requires c κs = search needs
 returns-2 : tie.Need-returns-2
 returns-2 c =
     rw
-    (c .before .before .before .at .given .1, c .before .bare2 .ensures)
+    (c .before .before .at .given .1, c .before .before .before .before .bare .ensures)
     (rw (c .index-word .ensures .0), rw (c .index-word .ensures .1))
 
 enum-known-at-2 : tie.Need-enum-known-at-2
@@ -46,11 +43,10 @@ pub reserve-words-spec : {M : Type 1} → statement M
 reserve-words-spec =
     tie.close
     (tie.spec
-    enum-told
     bare-requires
+    enum-told
     returns
     enum-known-at
-    bare-requires-2
     index-word-requires
     returns-2
     enum-known-at-2

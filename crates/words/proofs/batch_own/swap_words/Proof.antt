@@ -4,55 +4,43 @@ use borrow.Author.Needs.{needs}
 use Rattle.words.proofs.batch_own.swap_words.Statement.{statement}
 use Rattle.words.proofs.batch_own.swap_words.Tie as tie
 
-enum-told : tie.Need-enum-told
-enum-told c = search needs
-
 bare-requires : tie.Need-bare-requires
 bare-requires c κs = search needs
 
+enum-told : tie.Need-enum-told
+enum-told c = search needs
+
 returns : tie.Need-returns
-returns c = rw (c .before .enum-told .given .1, c .bare .ensures) (refl, refl)
+returns c = rw (c .enum-told .given .1, c .before .before .bare .ensures) (refl, refl)
 
 enum-known-at : tie.Need-enum-known-at
 enum-known-at c = search needs
 
-bare-requires-2 : tie.Need-bare-requires-2
-bare-requires-2 c κs = search needs
-
 returns-2 : tie.Need-returns-2
-returns-2 c = rw (c .before .before .at .given .1, c .bare2 .ensures) (refl, refl)
+returns-2 c = rw (c .before .at .given .1, c .before .before .before .bare .ensures) (refl, refl)
 
 enum-known-at-2 : tie.Need-enum-known-at-2
 enum-known-at-2 c = search needs
 
-bare-requires-3 : tie.Need-bare-requires-3
-bare-requires-3 c κs = search needs
-
 returns-3 : tie.Need-returns-3
-returns-3 c = rw (c .before .before .at2 .given .1, c .bare3 .ensures) (refl, refl)
+returns-3 c = rw (c .before .at2 .given .1, c .before .before .before .bare .ensures) (refl, refl)
 
 enum-known-at-3 : tie.Need-enum-known-at-3
 enum-known-at-3 c = search needs
 
-bare-requires-4 : tie.Need-bare-requires-4
-bare-requires-4 c κs = search needs
-
 returns-4 : tie.Need-returns-4
-returns-4 c = rw (c .before .before .at3 .given .1, c .bare4 .ensures) (refl, refl)
+returns-4 c = rw (c .before .at3 .given .1, c .before .before .before .bare .ensures) (refl, refl)
 
 pub swap-words-spec : {M : Type 1} → statement M
 swap-words-spec =
     tie.close
     (tie.spec
-    enum-told
     bare-requires
+    enum-told
     returns
     enum-known-at
-    bare-requires-2
     returns-2
     enum-known-at-2
-    bare-requires-3
     returns-3
     enum-known-at-3
-    bare-requires-4
     returns-4)

@@ -8,11 +8,11 @@ use Rattle.words.proofs.Steps.{tells, source-load-ring, source-take}
 use Rattle.words.proofs.batch_source.source_words.Statement.{statement}
 use Rattle.words.proofs.batch_source.source_words.Tie as tie
 
-enum-known-at : tie.Need-enum-known-at
-enum-known-at c = search needs
-
 bare-requires : tie.Need-bare-requires
 bare-requires c κs = search needs
+
+enum-known-at : tie.Need-enum-known-at
+enum-known-at c = search needs
 
 kind-word-requires : tie.Need-kind-word-requires
 kind-word-requires c κs = search needs
@@ -20,14 +20,11 @@ kind-word-requires c κs = search needs
 returns : tie.Need-returns
 returns c =
     rw
-    (c .before .before .before .at .given .1, c .before .bare .ensures)
+    (c .before .before .at .given .1, c .before .before .before .before .bare .ensures)
     (rw (c .kind-word .ensures .0), rw (c .kind-word .ensures .1))
 
 enum-known-at-2 : tie.Need-enum-known-at-2
 enum-known-at-2 c = search needs
-
-bare-requires-2 : tie.Need-bare-requires-2
-bare-requires-2 c κs = search needs
 
 kind-word-requires-2 : tie.Need-kind-word-requires-2
 kind-word-requires-2 c κs = search needs
@@ -38,26 +35,23 @@ index-word-requires c κs = search needs
 returns-2 : tie.Need-returns-2
 returns-2 c =
     rw
-    (c .before .before .before .before .at2 .given .1, c .before .before .bare2 .ensures)
+    (c .before .before .before .at2 .given .1, c .before .before .before .before .before .bare .ensures)
     (rw (c .index-word .ensures .0, c .before .kind-word2 .ensures .0), rw (c .index-word .ensures .1, c .before .kind-word2 .ensures .1))
 
 enum-known-at-3 : tie.Need-enum-known-at-3
 enum-known-at-3 c = search needs
 
-bare-requires-3 : tie.Need-bare-requires-3
-bare-requires-3 c κs = search needs
+index-word-requires-2 : tie.Need-index-word-requires-2
+index-word-requires-2 c κs = search needs
 
 with-wanted-requires : tie.Need-with-wanted-requires
 with-wanted-requires c κs = search needs
 
-index-word-requires-2 : tie.Need-index-word-requires-2
-index-word-requires-2 c κs = search needs
-
 returns-3 : tie.Need-returns-3
 returns-3 c =
     rw
-    (c .before .before .before .before .at3 .given .1, c .before .with-wanted .ensures .0, c .index-word2 .ensures .0, c .before .before .bare3 .ensures)
-    (refl, source-load-ring _ _ (tells wantedOf (c .before .with-wanted .ensures)) (tells indexOf (c .index-word2 .ensures)))
+    (c .before .before .before .at3 .given .1, c .with-wanted .ensures .0, c .before .index-word2 .ensures .0, c .before .before .before .before .before .bare .ensures)
+    (refl, source-load-ring _ _ (tells wantedOf (c .with-wanted .ensures)) (tells indexOf (c .before .index-word2 .ensures)))
 
 enum-known-at-4 : tie.Need-enum-known-at-4
 enum-known-at-4 c = search needs
@@ -78,19 +72,17 @@ pub source-words-spec : {M : Type 1} → statement M
 source-words-spec =
     tie.close
     (tie.spec
-    enum-known-at
     bare-requires
+    enum-known-at
     kind-word-requires
     returns
     enum-known-at-2
-    bare-requires-2
     kind-word-requires-2
     index-word-requires
     returns-2
     enum-known-at-3
-    bare-requires-3
-    with-wanted-requires
     index-word-requires-2
+    with-wanted-requires
     returns-3
     enum-known-at-4
     take-words-requires

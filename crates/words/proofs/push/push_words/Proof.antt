@@ -7,20 +7,17 @@ use Rattle.words.proofs.Steps.{tells, push-resize}
 use Rattle.words.proofs.push.push_words.Statement.{statement}
 use Rattle.words.proofs.push.push_words.Tie as tie
 
-enum-told : tie.Need-enum-told
-enum-told c = search needs
-
 bare-requires : tie.Need-bare-requires
 bare-requires c κs = search needs
 
+enum-told : tie.Need-enum-told
+enum-told c = search needs
+
 returns : tie.Need-returns
-returns c = rw (c .before .enum-told .given .1, c .bare .ensures) (refl, refl)
+returns c = rw (c .enum-told .given .1, c .before .before .bare .ensures) (refl, refl)
 
 enum-known-at : tie.Need-enum-known-at
 enum-known-at c = search needs
-
-bare-requires-2 : tie.Need-bare-requires-2
-bare-requires-2 c κs = search needs
 
 index-word-requires : tie.Need-index-word-requires
 index-word-requires c κs = search needs
@@ -28,7 +25,7 @@ index-word-requires c κs = search needs
 returns-2 : tie.Need-returns-2
 returns-2 c =
     rw
-    (c .before .before .before .at .given .1, c .before .bare2 .ensures)
+    (c .before .before .at .given .1, c .before .before .before .before .bare .ensures)
     (rw (c .index-word .ensures .0), rw (c .index-word .ensures .1))
 
 enum-known-at-2 : tie.Need-enum-known-at-2
@@ -49,23 +46,17 @@ returns-3 c =
 enum-known-at-3 : tie.Need-enum-known-at-3
 enum-known-at-3 c = search needs
 
-bare-requires-3 : tie.Need-bare-requires-3
-bare-requires-3 c κs = search needs
-
 index-word-requires-3 : tie.Need-index-word-requires-3
 index-word-requires-3 c κs = search needs
 
 returns-4 : tie.Need-returns-4
 returns-4 c =
     rw
-    (c .before .before .before .at3 .given .1, c .before .bare3 .ensures)
+    (c .before .before .at3 .given .1, c .before .before .before .before .bare .ensures)
     (rw (c .index-word3 .ensures .0), rw (c .index-word3 .ensures .1))
 
 enum-known-at-4 : tie.Need-enum-known-at-4
 enum-known-at-4 c = search needs
-
-bare-requires-4 : tie.Need-bare-requires-4
-bare-requires-4 c κs = search needs
 
 index-word-requires-4 : tie.Need-index-word-requires-4
 index-word-requires-4 c κs = search needs
@@ -73,18 +64,17 @@ index-word-requires-4 c κs = search needs
 returns-5 : tie.Need-returns-5
 returns-5 c =
     rw
-    (c .before .before .before .at4 .given .1, c .before .bare4 .ensures)
+    (c .before .before .at4 .given .1, c .before .before .before .before .bare .ensures)
     (rw (c .index-word4 .ensures .0), rw (c .index-word4 .ensures .1))
 
 pub push-words-spec : {M : Type 1} → statement M
 push-words-spec =
     tie.close
     (tie.spec
-    enum-told
     bare-requires
+    enum-told
     returns
     enum-known-at
-    bare-requires-2
     index-word-requires
     returns-2
     enum-known-at-2
@@ -92,10 +82,8 @@ push-words-spec =
     index-word-requires-2
     returns-3
     enum-known-at-3
-    bare-requires-3
     index-word-requires-3
     returns-4
     enum-known-at-4
-    bare-requires-4
     index-word-requires-4
     returns-5)

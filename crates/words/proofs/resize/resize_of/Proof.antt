@@ -1,4 +1,4 @@
--- Each return stands behind the tests by which `resizeOf` picks its step.
+-- Each return of `resize_of` stands behind the tests by which `resizeOf` picks.
 use borrow.Author.Needs.{needs}
 use borrow.Author.Tests.{eq-eqb, ne-eqb}
 use Rattle.words.proofs.resize.resize_of.Statement.{statement}
@@ -11,7 +11,7 @@ index-of-requires : tie.Need-index-of-requires
 index-of-requires c κs = search needs
 
 returns-2 : tie.Need-returns-2
-returns-2 c = rw (c .index-of .ensures, ne-eqb _ 10 (c .before .before .if1 .left), eq-eqb _ 11 (c .before .if2 .taken))
+returns-2 c = rw (c .before .index-of .ensures, ne-eqb _ 10 (c .before .before .if1 .left), eq-eqb _ 11 (c .if2 .taken))
 
 ring-of-requires : tie.Need-ring-of-requires
 ring-of-requires c κs = search needs
@@ -19,25 +19,22 @@ ring-of-requires c κs = search needs
 index-of-requires-2 : tie.Need-index-of-requires-2
 index-of-requires-2 c κs = search needs
 
-index-of-requires-3 : tie.Need-index-of-requires-3
-index-of-requires-3 c κs = search needs
-
 returns-3 : tie.Need-returns-3
 returns-3 c =
     rw (
-      c .index-of3 .ensures,
-      c .before .index-of2 .ensures,
-      c .before .before .before .ring-of .ensures,
+      c .index-of2 .ensures,
+      c .before .before .ring-of .ensures,
+      c .before .before .before .before .index-of .ensures,
       ne-eqb _ 10 (c .before .before .before .before .before .if1 .left),
-      ne-eqb _ 11 (c .before .before .before .before .if2 .left),
-      eq-eqb _ 12 (c .before .before .if3 .taken),
+      ne-eqb _ 11 (c .before .before .before .if2 .left),
+      eq-eqb _ 12 (c .before .if3 .taken),
     )
 
 returns-4 : tie.Need-returns-4
 returns-4 c =
     rw (
       c .before .ring-of .ensures,
-      ne-eqb _ 10 (c .before .before .before .if1 .left),
+      ne-eqb _ 10 (c .before .before .before .before .if1 .left),
       ne-eqb _ 11 (c .before .before .if2 .left),
       ne-eqb _ 12 (c .if3 .left),
     )
@@ -51,6 +48,5 @@ resize-of-spec =
     returns-2
     ring-of-requires
     index-of-requires-2
-    index-of-requires-3
     returns-3
     returns-4)

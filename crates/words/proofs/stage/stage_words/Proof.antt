@@ -5,14 +5,14 @@ use Rattle.core.specs.declared.stage.Stage.the-variants.{Push, Pop, Steal, Leng
 use Rattle.words.proofs.stage.stage_words.Statement.{statement}
 use Rattle.words.proofs.stage.stage_words.Tie as tie
 
-enum-told : tie.Need-enum-told
-enum-told c = search needs
-
 bare-requires : tie.Need-bare-requires
 bare-requires c κs = search needs
 
+enum-told : tie.Need-enum-told
+enum-told c = search needs
+
 returns : tie.Need-returns
-returns c = rw (c .before .enum-told .given .1, c .bare .ensures) (refl, refl)
+returns c = rw (c .enum-told .given .1, c .before .before .bare .ensures) (refl, refl)
 
 enum-known-stage : tie.Need-enum-known-stage
 enum-known-stage c = search needs
@@ -74,7 +74,10 @@ length-words-requires-2 : tie.Need-length-words-requires-2
 length-words-requires-2 c κs = search needs
 
 returns-6 : tie.Need-returns-6
-returns-6 c = rw (c .before .before .stage5 .given .1) (rw (c .length-words2 .ensures .0), ap OwnBatch (c .length-words2 .ensures .1))
+returns-6 c =
+    rw
+    (c .before .before .stage5 .given .1)
+    (rw (c .length-words2 .ensures .0), ap OwnBatch (c .length-words2 .ensures .1))
 
 enum-known-stage-6 : tie.Need-enum-known-stage-6
 enum-known-stage-6 c = search needs
@@ -104,8 +107,8 @@ pub stage-words-spec : {M : Type 1} → statement M
 stage-words-spec =
     tie.close
     (tie.spec
-    enum-told
     bare-requires
+    enum-told
     returns
     enum-known-stage
     push-words-requires
