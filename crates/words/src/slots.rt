@@ -1,6 +1,6 @@
 // The slots of a stage's words. A slot that a stage does not use is 0.
 ghost use mathlib.Core.Path.{_≡_};
-ghost use Rattle.words.specs.Slots.{indexWord, indexOf, bare as bareOf, withRing, ringOf, sameStageB};
+ghost use Rattle.words.specs.Slots.{indexWord, indexOf, bare as bareOf, withRing, withOperation, ringOf, sameStageB};
 use index::Index;
 use index::bits;
 use index::signed;
@@ -81,6 +81,15 @@ impl StageWords {
         self.ring = ring.number.0;
         self.place = ring.place.0 as u64;
         self.capacity = ring.capacity as u64;
+        self
+    }
+
+    // The operation that the step belongs to, and the number that it carries.
+    pub fn with_operation(mut self, operation: u64, number: u64) -> StageWords
+        ensures { λ r. ⌜ r ≡ withOperation operation number self ⌝ }
+    {
+        self.operation = operation;
+        self.number = number;
         self
     }
 

@@ -22,52 +22,30 @@ pub fn stage_words(stage: Stage) -> StageWords
     ensures { λ r. ⌜ r ≡ stageWords stage ⌝ }
     ensures { λ r. ⌜ stageOf r ≡ stage ⌝ }
 {
-    let mut w = StageWords::bare(0);
     match stage {
         Stage::Idle => {
-            return w;
+            return StageWords::bare(0);
         }
         Stage::Push(job, at) => {
-            w = push_words(at);
-            w.operation = 1;
-            w.number = job;
-            return w;
+            return push_words(at).with_operation(1, job);
         }
         Stage::Pop(by, at) => {
-            w = pop_words(at);
-            w.operation = 2;
-            w.number = popper_word(by);
-            return w;
+            return pop_words(at).with_operation(2, popper_word(by));
         }
         Stage::Steal(source, at) => {
-            w = steal_words(at);
-            w.operation = 3;
-            w.number = source as u64;
-            return w;
+            return steal_words(at).with_operation(3, source as u64);
         }
         Stage::Length(queue, at) => {
-            w = length_words(at);
-            w.operation = 4;
-            w.number = queue as u64;
-            return w;
+            return length_words(at).with_operation(4, queue as u64);
         }
         Stage::OwnBatch(at) => {
-            w = length_words(at);
-            w.operation = 5;
-            w.number = 0;
-            return w;
+            return length_words(at).with_operation(5, 0);
         }
         Stage::BatchSource(source, at) => {
-            w = source_words(at);
-            w.operation = 6;
-            w.number = source as u64;
-            return w;
+            return source_words(at).with_operation(6, source as u64);
         }
         Stage::BatchOwn(source, at) => {
-            w = own_words(at);
-            w.operation = 7;
-            w.number = source as u64;
-            return w;
+            return own_words(at).with_operation(7, source as u64);
         }
     }
 }

@@ -11,13 +11,13 @@ reserve-of-requires : tie.Need-reserve-of-requires
 reserve-of-requires c κs = search needs
 
 returns : tie.Need-returns
-returns c = rw (c .reserve-of .ensures, c .before .wanted-of .ensures, lt-ltb _ 20 (c .before .before .if1 .taken))
+returns c = rw (lt-ltb _ 20 (c .before .before .if1 .taken), c .reserve-of .ensures, c .before .wanted-of .ensures)
 
 wanted-of-requires-2 : tie.Need-wanted-of-requires-2
 wanted-of-requires-2 c κs = search needs
 
 returns-2 : tie.Need-returns-2
-returns-2 c = rw (c .wanted-of2 .ensures, le-ltb _ 20 (c .before .before .if1 .left), eq-eqb _ 20 (c .before .if2 .taken))
+returns-2 c = rw (le-ltb _ 20 (c .before .before .if1 .left), eq-eqb _ 20 (c .before .if2 .taken), c .wanted-of2 .ensures)
 
 haul-of-requires : tie.Need-haul-of-requires
 haul-of-requires c κs = search needs
@@ -27,12 +27,7 @@ put-of-requires c κs = search needs
 
 returns-3 : tie.Need-returns-3
 returns-3 c =
-    rw (
-      c .put-of .ensures,
-      c .before .haul-of .ensures,
-      le-ltb _ 20 (c .before .before .before .if1 .left),
-      ne-eqb _ 20 (c .before .before .if2 .left),
-    )
+    rw (le-ltb _ 20 (c .before .before .before .if1 .left), ne-eqb _ 20 (c .before .before .if2 .left), c .put-of .ensures, c .before .haul-of .ensures)
 
 pub own-of-spec : {M : Type 1} → statement M
 own-of-spec =

@@ -18,12 +18,7 @@ swap-of-requires c κs = search needs
 
 returns-4 : tie.Need-returns-4
 returns-4 c =
-    rw (
-      c .swap-of .ensures,
-      ne-eqb _ 30 (c .before .before .before .if1 .left),
-      ne-eqb _ 31 (c .before .before .if2 .left),
-      ne-eqb _ 32 (c .before .if3 .left),
-    )
+    rw (ne-eqb _ 30 (c .before .before .before .if1 .left), ne-eqb _ 31 (c .before .before .if2 .left), ne-eqb _ 32 (c .before .if3 .left), c .swap-of .ensures)
 
 pub put-of-spec : {M : Type 1} → statement M
 put-of-spec = tie.close (tie.spec returns returns-2 returns-3 swap-of-requires returns-4)

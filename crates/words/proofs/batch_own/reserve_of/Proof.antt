@@ -11,13 +11,13 @@ index-of-requires : tie.Need-index-of-requires
 index-of-requires c κs = search needs
 
 returns-2 : tie.Need-returns-2
-returns-2 c = rw (c .index-of .ensures, ne-eqb _ 0 (c .before .before .if1 .left), eq-eqb _ 1 (c .before .if2 .taken))
+returns-2 c = rw (ne-eqb _ 0 (c .before .before .if1 .left), eq-eqb _ 1 (c .before .if2 .taken), c .index-of .ensures)
 
 resize-of-requires : tie.Need-resize-of-requires
 resize-of-requires c κs = search needs
 
 returns-3 : tie.Need-returns-3
-returns-3 c = rw (c .resize-of .ensures, ne-eqb _ 0 (c .before .before .if1 .left), ne-eqb _ 1 (c .before .if2 .left))
+returns-3 c = rw (ne-eqb _ 0 (c .before .before .if1 .left), ne-eqb _ 1 (c .before .if2 .left), c .resize-of .ensures)
 
 pub reserve-of-spec : {M : Type 1} → statement M
 reserve-of-spec =

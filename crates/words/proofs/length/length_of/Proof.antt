@@ -11,7 +11,7 @@ index-of-requires : tie.Need-index-of-requires
 index-of-requires c κs = search needs
 
 returns-2 : tie.Need-returns-2
-returns-2 c = rw (c .index-of .ensures, ne-eqb _ 0 (c .before .if1 .left))
+returns-2 c = rw (ne-eqb _ 0 (c .before .if1 .left), c .index-of .ensures)
 
 pub length-of-spec : {M : Type 1} → statement M
 length-of-spec = tie.close (tie.spec returns index-of-requires returns-2)

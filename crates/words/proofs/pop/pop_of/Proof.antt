@@ -8,19 +8,19 @@ fifo-of-requires : tie.Need-fifo-of-requires
 fifo-of-requires c κs = search needs
 
 returns : tie.Need-returns
-returns c = rw (c .fifo-of .ensures, lt-ltb _ 10 (c .before .if1 .taken))
+returns c = rw (lt-ltb _ 10 (c .before .if1 .taken), c .fifo-of .ensures)
 
 resize-of-requires : tie.Need-resize-of-requires
 resize-of-requires c κs = search needs
 
 returns-2 : tie.Need-returns-2
-returns-2 c = rw (c .resize-of .ensures, le-ltb _ 10 (c .before .before .if1 .left), lt-ltb _ 20 (c .before .if2 .taken))
+returns-2 c = rw (le-ltb _ 10 (c .before .before .if1 .left), lt-ltb _ 20 (c .before .if2 .taken), c .resize-of .ensures)
 
 lifo-of-requires : tie.Need-lifo-of-requires
 lifo-of-requires c κs = search needs
 
 returns-3 : tie.Need-returns-3
-returns-3 c = rw (c .lifo-of .ensures, le-ltb _ 10 (c .before .before .if1 .left), le-ltb _ 20 (c .before .if2 .left))
+returns-3 c = rw (le-ltb _ 10 (c .before .before .if1 .left), le-ltb _ 20 (c .before .if2 .left), c .lifo-of .ensures)
 
 pub pop-of-spec : {M : Type 1} → statement M
 pop-of-spec =

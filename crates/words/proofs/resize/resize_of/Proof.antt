@@ -11,7 +11,7 @@ index-of-requires : tie.Need-index-of-requires
 index-of-requires c κs = search needs
 
 returns-2 : tie.Need-returns-2
-returns-2 c = rw (c .before .index-of .ensures, ne-eqb _ 10 (c .before .before .if1 .left), eq-eqb _ 11 (c .if2 .taken))
+returns-2 c = rw (ne-eqb _ 10 (c .before .before .if1 .left), eq-eqb _ 11 (c .if2 .taken), c .before .index-of .ensures)
 
 ring-of-requires : tie.Need-ring-of-requires
 ring-of-requires c κs = search needs
@@ -21,23 +21,11 @@ index-of-requires-2 c κs = search needs
 
 returns-3 : tie.Need-returns-3
 returns-3 c =
-    rw (
-      c .index-of2 .ensures,
-      c .before .before .ring-of .ensures,
-      c .before .before .before .before .index-of .ensures,
-      ne-eqb _ 10 (c .before .before .before .before .before .if1 .left),
-      ne-eqb _ 11 (c .before .before .before .if2 .left),
-      eq-eqb _ 12 (c .before .if3 .taken),
-    )
+    rw (ne-eqb _ 10 (c .before .before .before .before .before .if1 .left), ne-eqb _ 11 (c .before .before .before .if2 .left), eq-eqb _ 12 (c .before .if3 .taken), c .index-of2 .ensures, c .before .before .ring-of .ensures, c .before .before .before .before .index-of .ensures)
 
 returns-4 : tie.Need-returns-4
 returns-4 c =
-    rw (
-      c .before .ring-of .ensures,
-      ne-eqb _ 10 (c .before .before .before .before .if1 .left),
-      ne-eqb _ 11 (c .before .before .if2 .left),
-      ne-eqb _ 12 (c .if3 .left),
-    )
+    rw (ne-eqb _ 10 (c .before .before .before .before .if1 .left), ne-eqb _ 11 (c .before .before .if2 .left), ne-eqb _ 12 (c .if3 .left), c .before .ring-of .ensures)
 
 pub resize-of-spec : {M : Type 1} → statement M
 resize-of-spec =

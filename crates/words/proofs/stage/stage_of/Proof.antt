@@ -8,7 +8,7 @@ push-of-requires : tie.Need-push-of-requires
 push-of-requires c κs = search needs
 
 returns : tie.Need-returns
-returns c = rw (c .push-of .ensures, eq-eqb _ 1 (c .before .if1 .taken))
+returns c = rw (eq-eqb _ 1 (c .before .if1 .taken), c .push-of .ensures)
 
 popper-of-requires : tie.Need-popper-of-requires
 popper-of-requires c κs = search needs
@@ -19,10 +19,10 @@ pop-of-requires c κs = search needs
 returns-2 : tie.Need-returns-2
 returns-2 c =
     rw (
-      c .pop-of .ensures,
-      c .before .popper-of .ensures,
       ne-eqb _ 1 (c .before .before .before .if1 .left),
       eq-eqb _ 2 (c .before .before .if2 .taken),
+      c .pop-of .ensures,
+      c .before .popper-of .ensures,
     )
 
 steal-of-requires : tie.Need-steal-of-requires
@@ -31,10 +31,10 @@ steal-of-requires c κs = search needs
 returns-3 : tie.Need-returns-3
 returns-3 c =
     rw (
-      c .steal-of .ensures,
       ne-eqb _ 1 (c .before .before .before .if1 .left),
       ne-eqb _ 2 (c .before .before .if2 .left),
       eq-eqb _ 3 (c .before .if3 .taken),
+      c .steal-of .ensures,
     )
 
 length-of-requires : tie.Need-length-of-requires
@@ -43,11 +43,11 @@ length-of-requires c κs = search needs
 returns-4 : tie.Need-returns-4
 returns-4 c =
     rw (
-      c .length-of .ensures,
       ne-eqb _ 1 (c .before .before .before .before .if1 .left),
       ne-eqb _ 2 (c .before .before .before .if2 .left),
       ne-eqb _ 3 (c .before .before .if3 .left),
       eq-eqb _ 4 (c .before .if4 .taken),
+      c .length-of .ensures,
     )
 
 length-of-requires-2 : tie.Need-length-of-requires-2
@@ -56,12 +56,12 @@ length-of-requires-2 c κs = search needs
 returns-5 : tie.Need-returns-5
 returns-5 c =
     rw (
-      c .length-of2 .ensures,
       ne-eqb _ 1 (c .before .before .before .before .before .if1 .left),
       ne-eqb _ 2 (c .before .before .before .before .if2 .left),
       ne-eqb _ 3 (c .before .before .before .if3 .left),
       ne-eqb _ 4 (c .before .before .if4 .left),
       eq-eqb _ 5 (c .before .if5 .taken),
+      c .length-of2 .ensures,
     )
 
 source-of-requires : tie.Need-source-of-requires
@@ -70,13 +70,13 @@ source-of-requires c κs = search needs
 returns-6 : tie.Need-returns-6
 returns-6 c =
     rw (
-      c .source-of .ensures,
       ne-eqb _ 1 (c .before .before .before .before .before .before .if1 .left),
       ne-eqb _ 2 (c .before .before .before .before .before .if2 .left),
       ne-eqb _ 3 (c .before .before .before .before .if3 .left),
       ne-eqb _ 4 (c .before .before .before .if4 .left),
       ne-eqb _ 5 (c .before .before .if5 .left),
       eq-eqb _ 6 (c .before .if6 .taken),
+      c .source-of .ensures,
     )
 
 own-of-requires : tie.Need-own-of-requires
@@ -85,7 +85,6 @@ own-of-requires c κs = search needs
 returns-7 : tie.Need-returns-7
 returns-7 c =
     rw (
-      c .own-of .ensures,
       ne-eqb _ 1 (c .before .before .before .before .before .before .before .if1 .left),
       ne-eqb _ 2 (c .before .before .before .before .before .before .if2 .left),
       ne-eqb _ 3 (c .before .before .before .before .before .if3 .left),
@@ -93,6 +92,7 @@ returns-7 c =
       ne-eqb _ 5 (c .before .before .before .if5 .left),
       ne-eqb _ 6 (c .before .before .if6 .left),
       eq-eqb _ 7 (c .before .if7 .taken),
+      c .own-of .ensures,
     )
 
 returns-8 : tie.Need-returns-8
