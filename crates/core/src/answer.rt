@@ -1,3 +1,6 @@
+// What a call answers, with its numbers in the paper's table.
+ghost use mathlib.Core.Path.{_≡_};
+ghost use Rattle.core.specs.Answers.{refusalOf, shortageOf};
 use steal::Steal;
 
 // Why a call was turned away: refusals 1 to 7, in order.
@@ -34,4 +37,31 @@ pub enum Answer {
     Length { difference: i64, length: u64 },
     GaveUp(Shortage),
     Refused(Refusal),
+}
+
+impl Refusal {
+    pub fn number(self) -> u64
+        ensures { λ r. ⌜ r ≡ refusalOf self ⌝ }
+    {
+        match self {
+            Refusal::PoolLength => 1,
+            Refusal::Counts => 2,
+            Refusal::Unsound => 3,
+            Refusal::NoSuch => 4,
+            Refusal::Busy => 5,
+            Refusal::Idle => 6,
+            Refusal::NoLimit => 7,
+        }
+    }
+}
+
+impl Shortage {
+    pub fn number(self) -> u64
+        ensures { λ r. ⌜ r ≡ shortageOf self ⌝ }
+    {
+        match self {
+            Shortage::TooLarge => 8,
+            Shortage::NoRing => 9,
+        }
+    }
 }

@@ -1,13 +1,10 @@
 // The lines that a session prints: a call's answer and, after a tab for each queue, front, back, ring, place and capacity.
 ghost use mathlib.Core.Path.{_≡_};
 ghost use mathlib.Core.List.{_++_};
-ghost use Rattle.core.specs.Answers.{refusalOf, shortageOf};
 ghost use Rattle.core.specs.declared.answer.Answer.the-variants.{Length};
 ghost use Rattle.text.specs.Writing.{page as pageOf, put, signed, decimal};
 ghost use Rattle.line.specs.Line.{stolenText, answerText, ringText, queueText, queueTextIf, callText, setupText, badText};
 use core::answer::Answer;
-use core::answer::Refusal;
-use core::answer::Shortage;
 use core::queue::Queue;
 use core::queue::queue_of;
 use index::Index;
@@ -16,29 +13,6 @@ use steal::Steal;
 use text::writing::put_number;
 use text::writing::put_signed;
 use text::writing::put_text;
-
-fn refusal_number(refusal: Refusal) -> u64
-    ensures { λ r. ⌜ r ≡ refusalOf refusal ⌝ }
-{
-    match refusal {
-        Refusal::PoolLength => 1,
-        Refusal::Counts => 2,
-        Refusal::Unsound => 3,
-        Refusal::NoSuch => 4,
-        Refusal::Busy => 5,
-        Refusal::Idle => 6,
-        Refusal::NoLimit => 7,
-    }
-}
-
-fn shortage_number(shortage: Shortage) -> u64
-    ensures { λ r. ⌜ r ≡ shortageOf shortage ⌝ }
-{
-    match shortage {
-        Shortage::TooLarge => 8,
-        Shortage::NoRing => 9,
-    }
-}
 
 fn put_told(page: &mut [u8], at: usize, text: &[u8], n: u64) -> usize
     ensures { λ r. ⌜ pageOf (now (page .exit)) r ≡ put (now (page .entry)) at (now (text .entry) ++ decimal n) ⌝ }
@@ -76,8 +50,8 @@ fn put_answer(page: &mut [u8], at: usize, answer: Answer) -> usize
         Answer::Stolen(stolen) => put_stolen(page, at, stolen),
         Answer::Moved => put_text(page, at, b"moved"),
         Answer::Length { difference, length } => put_length(page, at, difference, length),
-        Answer::GaveUp(shortage) => put_told(page, at, b"gave-up ", shortage_number(shortage)),
-        Answer::Refused(refusal) => put_told(page, at, b"refused ", refusal_number(refusal)),
+        Answer::GaveUp(shortage) => put_told(page, at, b"gave-up ", shortage.number()),
+        Answer::Refused(refusal) => put_told(page, at, b"refused ", refusal.number()),
     }
 }
 

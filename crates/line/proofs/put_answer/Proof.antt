@@ -70,8 +70,8 @@ enum-known-answer-4 c = search needs
 slice-aggregate-put-told-2 : tie.Need-slice-aggregate-put-told-2
 slice-aggregate-put-told-2 c = search needs
 
-shortage-number-requires : tie.Need-shortage-number-requires
-shortage-number-requires c κs = search needs
+number-requires : tie.Need-number-requires
+number-requires c κs = search needs
 
 put-told-requires-2 : tie.Need-put-told-requires-2
 put-told-requires-2 c κs = search needs
@@ -82,8 +82,8 @@ enum-known-answer-5 c = search needs
 slice-aggregate-put-told-3 : tie.Need-slice-aggregate-put-told-3
 slice-aggregate-put-told-3 c = search needs
 
-refusal-number-requires : tie.Need-refusal-number-requires
-refusal-number-requires c κs = search needs
+number-requires-2 : tie.Need-number-requires-2
+number-requires-2 c κs = search needs
 
 put-told-requires-3 : tie.Need-put-told-requires-3
 put-told-requires-3 c κs = search needs
@@ -137,13 +137,13 @@ same-length-8 : tie.Need-same-length-8
 same-length-8 c = search needs
 
 returns-8 : tie.Need-returns-8
-returns-8 c = rw (c .before .before .before .before .before .before .before .answer4 .given .1, c .before .before .put-told2 .ensures, c .before .before .before .shortage-number .ensures)
+returns-8 c = rw (c .before .before .before .before .before .before .before .answer4 .given .1, c .before .before .put-told2 .ensures, c .before .before .before .number .ensures)
 
 same-length-9 : tie.Need-same-length-9
 same-length-9 c = search needs
 
 returns-9 : tie.Need-returns-9
-returns-9 c = rw (c .before .before .before .before .before .before .before .answer5 .given .1, c .before .before .put-told3 .ensures, c .before .before .before .refusal-number .ensures)
+returns-9 c = rw (c .before .before .before .before .before .before .before .answer5 .given .1, c .before .before .put-told3 .ensures, c .before .before .before .number2 .ensures)
 
 pub put-answer-spec : {M : Type 1} → statement M
 put-answer-spec =
@@ -170,11 +170,11 @@ put-answer-spec =
     put-length-requires
     enum-known-answer-4
     slice-aggregate-put-told-2
-    shortage-number-requires
+    number-requires
     put-told-requires-2
     enum-known-answer-5
     slice-aggregate-put-told-3
-    refusal-number-requires
+    number-requires-2
     put-told-requires-3
     same-length
     returns

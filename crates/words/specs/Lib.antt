@@ -1,0 +1,12 @@
+pub mod Slots
+pub mod Queue
+pub mod Resize
+pub mod Push
+pub mod Pop
+pub mod Stealing
+pub mod Length
+pub mod Batch
+pub mod BatchSource
+pub mod BatchOwn
+pub mod Stage
+pub mod Answer
