@@ -9,4 +9,5 @@ pub mod Batch
 pub mod BatchSource
 pub mod BatchOwn
 pub mod Stage
+pub mod Slices
 pub mod Answer

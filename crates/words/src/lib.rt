@@ -8,6 +8,7 @@ pub mod pop;
 pub mod push;
 pub mod queue;
 pub mod resize;
+pub mod slices;
 pub mod slots;
 pub mod stage;
 pub mod stealing;
