@@ -4,10 +4,10 @@ ghost use mathlib.Core.Path.{_≡_};
 ghost use lib.Dec.{eqb};
 ghost use Rattle.cells.specs.Cells.{placeCells};
 ghost use Rattle.gate.specs.Gate.{setupTests, callTests, namesB, limitB, beginTests, stepTests, thenGate};
-use cells::PLACE_CELLS;
-use core::answer::Refusal;
 use crate::Gate;
 use crate::Operation;
+use cells::PLACE_CELLS;
+use core::answer::Refusal;
 use sound::counts_in_range;
 
 // So many places have so many cells.

@@ -90,7 +90,13 @@ fn put_queue_if(page: &mut [u8], at: usize, count: usize, queues: [Queue; 4], k:
 }
 
 // A call's line: of the queues so many.
-pub fn put_call(page: &mut [u8], at: usize, count: usize, queues: [Queue; 4], answer: Answer) -> usize
+pub fn put_call(
+    page: &mut [u8],
+    at: usize,
+    count: usize,
+    queues: [Queue; 4],
+    answer: Answer,
+) -> usize
     ensures { λ r. ⌜ pageOf (now (page .exit)) r ≡ put (now (page .entry)) at (callText count queues answer) ⌝ }
 {
     let a = put_answer(page, at, answer);

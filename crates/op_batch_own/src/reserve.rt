@@ -41,7 +41,13 @@ fn grown(wanted: Wanted, q: Queue, resized: Resized) -> BatchOut
     }
 }
 
-pub fn reserve_step(wanted: Wanted, at: ReserveStage, q: Queue, claim: Claim, pool: &mut [u64]) -> BatchOut
+pub fn reserve_step(
+    wanted: Wanted,
+    at: ReserveStage,
+    q: Queue,
+    claim: Claim,
+    pool: &mut [u64],
+) -> BatchOut
     ensures { λ r. ⌜ (r, now (pool .exit)) ≡ reserveOf wanted at q claim (now (pool .entry)) ⌝ }
 {
     match at {

@@ -67,7 +67,7 @@ pub enum KindRead {
     Wrong,
 }
 
-fn kind_of(number: u64) -> KindRead
+pub fn kind_of(number: u64) -> KindRead
     ensures { λ r. ⌜ r ≡ kindOf number ⌝ }
 {
     if number == 0 {
@@ -136,7 +136,7 @@ fn is_unused(number: u64, used: bool) -> bool
     (number != 0) & !used
 }
 
-fn request_of(thread: usize, kind: Kind, source: usize, operand: u64) -> Request
+pub fn request_of(thread: usize, kind: Kind, source: usize, operand: u64) -> Request
     ensures { λ r. ⌜ r ≡ requestOf thread kind source operand ⌝ }
 {
     match kind {

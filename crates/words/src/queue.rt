@@ -30,7 +30,7 @@ fn flavor_word(flavor: Flavor) -> u64
     }
 }
 
-fn flavor_of(u: u64) -> Flavor
+pub fn flavor_of(u: u64) -> Flavor
     ensures { λ r. ⌜ r ≡ flavorOf u ⌝ }
 {
     if u == 0 {

@@ -15,7 +15,7 @@ use crate::stage::stage_words;
 // The words of a machine: three counts, six for each queue, sixteen for each thread.
 pub const MACHINE_WORDS: usize = 91;
 
-fn word(words: &[u64], at: usize, k: usize) -> u64
+pub fn word(words: &[u64], at: usize, k: usize) -> u64
     ensures { λ r. ⌜ r ≡ getD (now (words .entry)) (at + k) 0 ⌝ }
 {
     if words.len() <= at {
@@ -63,7 +63,7 @@ pub fn stage_in(words: &[u64], at: usize) -> StageWords
     }
 }
 
-fn put_word(words: &mut [u64], at: usize, k: usize, value: u64)
+pub fn put_word(words: &mut [u64], at: usize, k: usize, value: u64)
     ensures { λ _. ⌜ now (words .exit) ≡ set (now (words .entry)) (at + k) value ⌝ }
 {
     if words.len() <= at {

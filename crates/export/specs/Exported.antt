@@ -1,0 +1,50 @@
+-- What the exported functions leave: the machine's words, the pool's cells, the answer's four words.
+use Prim.Native.Nat.{ℕ, _/_, _%_}
+use mathlib.Core.List.{List, [], _∷_}
+use lib.Dec.{eqb}
+use lib.ListN.{length}
+use Rattle.base.specs.Tests.{pick}
+use Rattle.core.specs.declared.queue.Flavor.{Flavor}
+use Rattle.core.specs.declared.answer.Answer.the-variants.{Refused}
+use Rattle.core.specs.declared.answer.Refusal.the-variants.{Unsound}
+use Rattle.gate.specs.declared.Request.{Request}
+use Rattle.machine.specs.State.{After}
+use Rattle.machine.specs.Setup.{setupOf}
+use Rattle.machine.specs.Call.{callOf}
+use Rattle.machine.specs.Shown.{shownOf}
+use Rattle.session.specs.declared.grammar.KindRead.{KindRead}
+use Rattle.session.specs.declared.grammar.KindRead.the-variants.{Kind, Wrong}
+use Rattle.session.specs.Grammar.{requestOf}
+use Rattle.words.specs.Queue.{flavorOf}
+use Rattle.words.specs.Answer.{answerWords}
+use Rattle.words.specs.Slices.{machineSize, machineB}
+use Rattle.export.specs.Words.{machineIn, machinePut}
+
+-- queue q is LIFO where bit q is set
+abbrev pub flavorsOf : ℕ → List Flavor
+flavorsOf bits = flavorOf (bits % 2) ∷ flavorOf (bits / 2 % 2) ∷ flavorOf (bits / 4 % 2) ∷ flavorOf (bits / 8 % 2) ∷ []
+
+-- words that are no machine are refused
+abbrev pub unsoundWords : List ℕ
+unsoundWords = answerWords (Refused Unsound)
+
+abbrev pub setWords : List ℕ → After → List ℕ × List ℕ
+setWords w a = (machinePut w (a .called .machine), answerWords (a .called .answer))
+
+unfoldable pub setupWords : List ℕ → List ℕ → ℕ → ℕ → ℕ → List ℕ × List ℕ
+setupWords w cells k bits n =
+    pick (eqb (length w) machineSize) (setWords w (setupOf k (flavorsOf bits) n cells)) (w, unsoundWords)
+
+abbrev pub calledWords : List ℕ → After → List ℕ × List ℕ × List ℕ
+calledWords w a = (machinePut w (a .called .machine), a .cells, answerWords (a .called .answer))
+
+unfoldable pub askedWords : List ℕ → List ℕ → ℕ → Request → List ℕ × List ℕ × List ℕ
+askedWords w cells t r = pick (machineB w) (calledWords w (callOf (machineIn w) cells t r)) (w, cells, unsoundWords)
+
+-- a kind that is no call's changes nothing
+abbrev pub callWords : List ℕ → List ℕ → ℕ → KindRead → ℕ → ℕ → List ℕ × List ℕ × List ℕ
+callWords w cells t (Kind k) src n = askedWords w cells t (requestOf t k src n)
+callWords w cells t Wrong src n = (w, cells, 11 ∷ 0 ∷ 0 ∷ 0 ∷ [])
+
+unfoldable pub shownWords : List ℕ → List ℕ → ℕ → ℕ
+shownWords w cells q = pick (machineB w) (length (shownOf (machineIn w) cells q)) 0

@@ -1,0 +1,116 @@
+// What firmware calls. The machine is lent as 91 words, the pool as its cells; the answer is put into four words.
+ghost use mathlib.Core.Path.{_≡_};
+ghost use Rattle.session.specs.Grammar.{kindOf};
+ghost use Rattle.export.specs.Exported.{flavorsOf, unsoundWords, setupWords, askedWords, callWords, shownWords};
+use crate::reading::machine_in;
+use crate::writing::store;
+use core::answer::Answer;
+use core::answer::Refusal;
+use core::queue::Flavor;
+use gate::Request;
+use machine::state::Machine;
+use session::grammar::KindRead;
+use session::grammar::kind_of;
+use session::grammar::request_of;
+use words::answer::answer_words;
+use words::queue::flavor_of;
+use words::slices::MACHINE_WORDS;
+use words::slices::is_machine;
+
+// The kind of an answer to a kind that is no call's.
+pub const NO_CALL: u64 = 11;
+
+// Queue q is LIFO where bit q is set.
+fn flavors_of(bits: u64) -> [Flavor; 4]
+    ensures { λ r. ⌜ r ≡ flavorsOf bits ⌝ }
+{
+    [
+        flavor_of(bits % 2),
+        flavor_of(bits / 2 % 2),
+        flavor_of(bits / 4 % 2),
+        flavor_of(bits / 8 % 2),
+    ]
+}
+
+// Words that are no machine are refused.
+fn no_machine() -> [u64; 4]
+    ensures { λ r. ⌜ r ≡ unsoundWords ⌝ }
+{
+    answer_words(Answer::Refused(Refusal::Unsound))
+}
+
+#[no_mangle]
+pub extern "C" fn hub_queues_setup(
+    machine: &mut [u64],
+    pool: &[u64],
+    queues: usize,
+    flavors: u64,
+    places: usize,
+    answer: &mut [u64; 4],
+)
+    ensures { λ _. ⌜ (now (machine .exit), now (answer .exit)) ≡ setupWords (now (machine .entry)) (now (pool .entry)) queues flavors places ⌝ }
+{
+    if machine.len() != MACHINE_WORDS {
+        *answer = no_machine();
+        return;
+    }
+    let called = Machine::setup(queues, flavors_of(flavors), places, pool);
+    let next = called.machine;
+    let said = called.answer;
+    store(machine, next);
+    *answer = answer_words(said);
+}
+
+// A call that is asked for.
+fn ask(machine: &mut [u64], pool: &mut [u64], thread: usize, request: Request) -> [u64; 4]
+    ensures { λ r. ⌜ (now (machine .exit), now (pool .exit), r) ≡ askedWords (now (machine .entry)) (now (pool .entry)) thread request ⌝ }
+{
+    if !is_machine(machine) {
+        return no_machine();
+    }
+    let called = machine_in(machine).call(pool, thread, request);
+    let next = called.machine;
+    let said = called.answer;
+    store(machine, next);
+    answer_words(said)
+}
+
+// kind: 0 step, 1 push (operand: job), 2 pop, 3 length of the own queue, 4 length, 5 steal, 6 batch (operand: limit), 7 batch and pop (operand:
+// limit). Numbers that a kind does not use are not looked at.
+#[no_mangle]
+pub extern "C" fn hub_queues_call(
+    machine: &mut [u64],
+    pool: &mut [u64],
+    thread: usize,
+    kind: u64,
+    source: usize,
+    operand: u64,
+    answer: &mut [u64; 4],
+)
+    ensures { λ _. ⌜ (now (machine .exit), now (pool .exit), now (answer .exit)) ≡ callWords (now (machine .entry)) (now (pool .entry)) thread (kindOf kind) source operand ⌝ }
+{
+    match kind_of(kind) {
+        KindRead::Kind(known) => {
+            *answer = ask(
+                machine,
+                pool,
+                thread,
+                request_of(thread, known, source, operand),
+            );
+        }
+        KindRead::Wrong => {
+            *answer = [NO_CALL, 0, 0, 0];
+        }
+    }
+}
+
+// How many cells the queue's ring has, from the first cell of its place on.
+#[no_mangle]
+pub extern "C" fn hub_queues_shown(machine: &[u64], pool: &[u64], queue: usize) -> usize
+    ensures { λ r. ⌜ r ≡ shownWords (now (machine .entry)) (now (pool .entry)) queue ⌝ }
+{
+    if !is_machine(machine) {
+        return 0;
+    }
+    machine_in(machine).shown(pool, queue).len()
+}
