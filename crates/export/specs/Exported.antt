@@ -1,10 +1,9 @@
 -- What the exported functions leave: the machine's words, the pool's cells, the answer's four words.
-use Prim.Native.Nat.{ℕ, _/_, _%_}
+use Prim.Native.Nat.{ℕ}
 use mathlib.Core.List.{List, [], _∷_}
 use lib.Dec.{eqb}
 use lib.ListN.{length}
 use Rattle.base.specs.Tests.{pick}
-use Rattle.core.specs.declared.queue.Flavor.{Flavor}
 use Rattle.core.specs.declared.answer.Answer.the-variants.{Refused}
 use Rattle.core.specs.declared.answer.Refusal.the-variants.{Unsound}
 use Rattle.gate.specs.declared.Request.{Request}
@@ -15,14 +14,10 @@ use Rattle.machine.specs.Shown.{shownOf}
 use Rattle.session.specs.declared.grammar.KindRead.{KindRead}
 use Rattle.session.specs.declared.grammar.KindRead.the-variants.{Kind, Wrong}
 use Rattle.session.specs.Grammar.{requestOf}
-use Rattle.words.specs.Queue.{flavorOf}
-use Rattle.words.specs.Answer.{answerWords}
+use Rattle.slots.specs.Queue.{flavorsOf}
+use Rattle.slots.specs.Answer.{answerWords}
 use Rattle.words.specs.Slices.{machineSize, machineB}
 use Rattle.export.specs.Words.{machineIn, machinePut}
-
--- queue q is LIFO where bit q is set
-abbrev pub flavorsOf : ℕ → List Flavor
-flavorsOf bits = flavorOf (bits % 2) ∷ flavorOf (bits / 2 % 2) ∷ flavorOf (bits / 4 % 2) ∷ flavorOf (bits / 8 % 2) ∷ []
 
 -- words that are no machine are refused
 abbrev pub unsoundWords : List ℕ

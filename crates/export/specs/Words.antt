@@ -12,7 +12,7 @@ use Rattle.core.specs.Queues.{zeroQueue}
 use Rattle.machine.specs.declared.state.Thread.{Thread}
 use Rattle.machine.specs.declared.state.Machine.{Machine}
 use Rattle.machine.specs.State.{idleThread}
-use Rattle.words.specs.Queue.{queueWords, queueOf}
+use Rattle.slots.specs.Queue.{queueWords, queueOf}
 use Rattle.words.specs.Stage.{stageWords, stageOf}
 use Rattle.words.specs.Slices.{queueIn, stageIn, putQueue, putStage, machineSize, machineB}
 

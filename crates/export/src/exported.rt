@@ -1,36 +1,23 @@
-// What firmware calls. The machine is lent as 91 words, the pool as its cells; the answer is put into four words.
+// What firmware calls, through `hub_queues`. The machine is lent as 91 words, the pool as its cells; the answer is put into four words.
 ghost use mathlib.Core.Path.{_≡_};
 ghost use Rattle.session.specs.Grammar.{kindOf};
-ghost use Rattle.export.specs.Exported.{flavorsOf, unsoundWords, setupWords, askedWords, callWords, shownWords};
+ghost use Rattle.export.specs.Exported.{unsoundWords, setupWords, askedWords, callWords, shownWords};
 use crate::reading::machine_in;
 use crate::writing::store;
 use core::answer::Answer;
 use core::answer::Refusal;
-use core::queue::Flavor;
 use gate::Request;
 use machine::state::Machine;
 use session::grammar::KindRead;
 use session::grammar::kind_of;
 use session::grammar::request_of;
-use words::answer::answer_words;
-use words::queue::flavor_of;
+use slots::answer::answer_words;
+use slots::queue::flavors_of;
 use words::slices::MACHINE_WORDS;
 use words::slices::is_machine;
 
 // The kind of an answer to a kind that is no call's.
 pub const NO_CALL: u64 = 11;
-
-// Queue q is LIFO where bit q is set.
-fn flavors_of(bits: u64) -> [Flavor; 4]
-    ensures { λ r. ⌜ r ≡ flavorsOf bits ⌝ }
-{
-    [
-        flavor_of(bits % 2),
-        flavor_of(bits / 2 % 2),
-        flavor_of(bits / 4 % 2),
-        flavor_of(bits / 8 % 2),
-    ]
-}
 
 // Words that are no machine are refused.
 fn no_machine() -> [u64; 4]
@@ -39,8 +26,7 @@ fn no_machine() -> [u64; 4]
     answer_words(Answer::Refused(Refusal::Unsound))
 }
 
-#[no_mangle]
-pub extern "C" fn hub_queues_setup(
+pub fn setup(
     machine: &mut [u64],
     pool: &[u64],
     queues: usize,
@@ -77,8 +63,7 @@ fn ask(machine: &mut [u64], pool: &mut [u64], thread: usize, request: Request) -
 
 // kind: 0 step, 1 push (operand: job), 2 pop, 3 length of the own queue, 4 length, 5 steal, 6 batch (operand: limit), 7 batch and pop (operand:
 // limit). Numbers that a kind does not use are not looked at.
-#[no_mangle]
-pub extern "C" fn hub_queues_call(
+pub fn call(
     machine: &mut [u64],
     pool: &mut [u64],
     thread: usize,
@@ -105,8 +90,7 @@ pub extern "C" fn hub_queues_call(
 }
 
 // How many cells the queue's ring has, from the first cell of its place on.
-#[no_mangle]
-pub extern "C" fn hub_queues_shown(machine: &[u64], pool: &[u64], queue: usize) -> usize
+pub fn shown(machine: &[u64], pool: &[u64], queue: usize) -> usize
     ensures { λ r. ⌜ r ≡ shownWords (now (machine .entry)) (now (pool .entry)) queue ⌝ }
 {
     if !is_machine(machine) {

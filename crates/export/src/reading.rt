@@ -1,13 +1,13 @@
 // The machine that words are read as; whatever they are, there is one.
 ghost use mathlib.Core.Path.{_≡_};
-ghost use Rattle.words.specs.Queue.{queueOf};
+ghost use Rattle.slots.specs.Queue.{queueOf};
 ghost use Rattle.words.specs.Slices.{queueIn};
 ghost use Rattle.export.specs.Words.{queuesIn, threadIn, threadsIn, machineIn};
 use core::queue::Queue;
 use machine::state::Machine;
 use machine::state::Thread;
 use ring::RingNumber;
-use words::queue::queue_of;
+use slots::queue::queue_of;
 use words::slices::queue_in;
 use words::slices::stage_in;
 use words::slices::word;

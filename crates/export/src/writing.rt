@@ -1,7 +1,7 @@
 // A machine written as words.
 ghost use mathlib.Core.Path.{_≡_};
 ghost use lib.ListN.{length};
-ghost use Rattle.words.specs.Queue.{queueWords, queueOf};
+ghost use Rattle.slots.specs.Queue.{queueWords, queueOf};
 ghost use Rattle.words.specs.Stage.{stageWords, stageOf};
 ghost use Rattle.words.specs.Slices.{putQueue, putStage, machineSize};
 ghost use Rattle.export.specs.Words.{putCounts, putQueues, QueuesTold, putThreads, ThreadsTold, storedOf, Told};
@@ -9,7 +9,7 @@ use core::queue::Queue;
 use core::queue::queue_of;
 use machine::state::Machine;
 use machine::state::Thread;
-use words::queue::queue_words;
+use slots::queue::queue_words;
 use words::slices::MACHINE_WORDS;
 use words::slices::put_queue;
 use words::slices::put_stage;

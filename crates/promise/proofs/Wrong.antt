@@ -5,28 +5,22 @@ use mathlib.Core.List.{List, [], _∷_}
 use Prim.Native.Nat.{ℕ}
 use native.Mathlib.Omega.{arith}
 use lib.Count.{ones, onesIn}
-use lib.IntN.{pos}
 use Rattle.base.specs.Below.{allBelow, anyBelow, firstNot}
 use Rattle.index.specs.Index.{modZ, wrap, plusOf, differenceOf, lengthOf, behindB, emptyB, fullB, spansB, sameB, cellOf}
 use Rattle.ring.specs.Capacity.{allowedB}
 use Rattle.cells.specs.Cells.{standsB, spot, readOf, writtenOf}
-use Rattle.steal.specs.declared.Steal.the-variants as T
 use Rattle.core.specs.declared.queue.Flavor.the-variants.{Fifo}
-use Rattle.core.specs.declared.answer.Answer.the-variants as A
-use Rattle.core.specs.declared.answer.Refusal.the-variants.{NoSuch}
 use Rattle.core.specs.Answers.{told}
 use Rattle.gate.specs.declared.Operation.the-variants.{Push, Length, Steal}
 use Rattle.machine.specs.declared.state.Machine.{Machine}
-use Rattle.machine.specs.State.{After, after, refused, queueAt}
+use Rattle.machine.specs.State.{After, queueAt}
 use Rattle.machine.specs.Sound.{soundB}
 use Rattle.machine.specs.Claim.{freeRing}
 use Rattle.machine.specs.Setup.{setupOf}
 use Rattle.machine.specs.Step.{gateOf, stepOf}
 use Rattle.machine.specs.Begin.{beginOf}
 use Rattle.games.specs.Play.{setup, begin, steps, alone, finish, answerOf}
-
-abbrev Steps : Type 0
-Steps = Machine → List ℕ → ℕ → After
+use Rattle.promise.specs.Machines.{Steps, refuses, says-empty, says-retry, stands-still, does-all, makes-up, tested}
 
 abbrev at : Steps → After → After
 at w s = w (s .called .machine) (s .cells) 0
@@ -67,31 +61,9 @@ asked = steps 0 1 (begin 0 (Length 0) (setup (Fifo ∷ []) 1))
 abbrev stealing : After
 stealing = steps 0 5 (begin 0 (Steal 0) (alone 0 (Push 7) (setup (Fifo ∷ []) 1) .left))
 
--- ---- the wrong machines
-
-abbrev pub refuses : Steps
-refuses m cells t = refused m NoSuch cells
-
-abbrev pub says-empty : Steps
-says-empty m cells t = after m (A.Stolen T.Empty) cells
-
-abbrev pub says-retry : Steps
-says-retry m cells t = after m (A.Stolen T.Retry) cells
-
--- it answers as it should and leaves all as it was: a push that is done stores nothing, and a job that is stolen stays, so that it is copied
-abbrev pub stands-still : Steps
-stands-still m cells t = after m (stepOf m cells t .called .answer) cells
-
--- it does a whole push at its first step, and then idles
-abbrev pub does-all : Steps
-does-all m cells t = steps t 4 (after m A.Working cells)
-
-abbrev pub makes-up : Steps
-makes-up m cells t = after m (A.Length (pos 7) 7) cells
-
 -- ---- what is promised there, and what those machines show that play on
 
-pub promised : (kind (at stepOf begun) ≡ 0) × (back (at stepOf written) ≡ 1) × (front (at stepOf stealing) ≡ 1) × (length (at stepOf asked) ≡ 0)
+pub promised : (kind (at tested begun) ≡ 0) × (back (at tested written) ≡ 1) × (front (at tested stealing) ≡ 1) × (length (at tested asked) ≡ 0)
 unfolding steps finish allBelow anyBelow firstNot wrap plusOf differenceOf lengthOf behindB emptyB fullB spansB sameB cellOf allowedB standsB spot readOf writtenOf soundB freeRing setupOf gateOf stepOf beginOf ones onesIn
 promised = (refl, refl, refl, refl)
 

@@ -28,7 +28,7 @@ use Rattle.core.specs.declared.stage.SwapStage.the-variants as X
 use Rattle.core.specs.declared.stage.PutStage.{PutStage}
 use Rattle.core.specs.declared.stage.PutStage.the-variants as W
 use Rattle.core.specs.declared.stage.OwnStage.the-variants as O
-use Rattle.words.specs.Slots.{indexWord, indexOf, bare, withB, withCount, withJob}
+use Rattle.slots.specs.Slots.{indexWord, indexOf, bare, withB, withCount, withJob}
 use Rattle.words.specs.Resize.{resizeWords, resizeOf}
 use Rattle.words.specs.Push.{pushOf}
 use Rattle.words.specs.Pop.{fifoWords, fifoOf, lifoWords, lifoOf, popOf}

@@ -8,8 +8,8 @@ use Rattle.core.specs.declared.stage.InHand.{InHand}
 use Rattle.core.specs.declared.stage.InHand.the-variants.{Nothing, Job}
 use Rattle.core.specs.declared.stage.Wanted.{Wanted}
 use Rattle.core.specs.declared.stage.Haul.{Haul}
-use Rattle.words.specs.declared.slots.StageWords.{StageWords}
-use Rattle.words.specs.Slots.{indexWord, indexOf, ringOf}
+use Rattle.slots.specs.declared.StageWords.{StageWords}
+use Rattle.slots.specs.Slots.{slots, indexWord, indexOf, ringOf}
 
 abbrev pub kindWord : BatchKind → ℕ
 kindWord Batch = 0
@@ -19,24 +19,7 @@ abbrev pub kindOf : ℕ → BatchKind
 kindOf u = pick (eqb u 0) Batch BatchAndPop
 
 abbrev pub withKind : BatchKind → StageWords → StageWords
-withKind k w = record {
-  operation = w .operation;
-  number = w .number;
-  kind = kindWord k;
-  step = w .step;
-  f = w .f;
-  b = w .b;
-  n = w .n;
-  i = w .i;
-  end = w .end;
-  job = w .job;
-  far = w .far;
-  hand = w .hand;
-  held = w .held;
-  ring = w .ring;
-  place = w .place;
-  capacity = w .capacity;
-}
+withKind k w = slots (w .operation) (w .number) (kindWord k) (w .step) (w .f) (w .b) (w .n) (w .i) (w .end) (w .job) (w .far) (w .hand) (w .held) (w .ring) (w .place) (w .capacity)
 
 -- whether a job is in hand, and that job
 abbrev pub handWord : InHand → ℕ
@@ -51,47 +34,13 @@ abbrev pub handOf : ℕ → ℕ → InHand
 handOf hand held = pick (eqb hand 0) Nothing (Job held)
 
 abbrev pub withWanted : Wanted → StageWords → StageWords
-withWanted h w = record {
-  operation = w .operation;
-  number = w .number;
-  kind = kindWord (h .kind);
-  step = w .step;
-  f = indexWord (h .f);
-  b = w .b;
-  n = h .n;
-  i = w .i;
-  end = w .end;
-  job = w .job;
-  far = w .far;
-  hand = w .hand;
-  held = w .held;
-  ring = w .ring;
-  place = w .place;
-  capacity = w .capacity;
-}
+withWanted h w = slots (w .operation) (w .number) (kindWord (h .kind)) (w .step) (indexWord (h .f)) (w .b) (h .n) (w .i) (w .end) (w .job) (w .far) (w .hand) (w .held) (w .ring) (w .place) (w .capacity)
 
 abbrev pub wantedOf : StageWords → Wanted
 wantedOf w = record { kind = kindOf (w .kind); f = indexOf (w .f); n = w .n }
 
 abbrev pub withHaul : Haul → StageWords → StageWords
-withHaul h w = record {
-  operation = w .operation;
-  number = w .number;
-  kind = w .kind;
-  step = w .step;
-  f = indexWord (h .f);
-  b = indexWord (h .b);
-  n = h .n;
-  i = w .i;
-  end = w .end;
-  job = w .job;
-  far = w .far;
-  hand = handWord (h .«in_hand»);
-  held = heldWord (h .«in_hand»);
-  ring = h .ring .number .0;
-  place = h .ring .place .0;
-  capacity = h .ring .capacity;
-}
+withHaul h w = slots (w .operation) (w .number) (w .kind) (w .step) (indexWord (h .f)) (indexWord (h .b)) (h .n) (w .i) (w .end) (w .job) (w .far) (handWord (h .«in_hand»)) (heldWord (h .«in_hand»)) (h .ring .number .0) (h .ring .place .0) (h .ring .capacity)
 
 abbrev pub haulOf : StageWords → Haul
 haulOf w = record {

@@ -9,8 +9,8 @@ use Rattle.core.specs.declared.stage.PutStage.{PutStage}
 use Rattle.core.specs.declared.stage.PutStage.the-variants as W
 use Rattle.core.specs.declared.stage.OwnStage.{OwnStage}
 use Rattle.core.specs.declared.stage.OwnStage.the-variants.{Reserve, LoadBack, Put}
-use Rattle.words.specs.declared.slots.StageWords.{StageWords}
-use Rattle.words.specs.Slots.{indexOf, bare, withB, withCount, withJob, withFar}
+use Rattle.slots.specs.declared.StageWords.{StageWords}
+use Rattle.slots.specs.Slots.{indexOf, bare, withB, withCount, withJob, withFar}
 use Rattle.words.specs.Resize.{resizeWords, resizeOf}
 use Rattle.words.specs.Batch.{withWanted, wantedOf, withHaul, haulOf}
 

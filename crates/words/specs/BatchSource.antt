@@ -9,8 +9,8 @@ use Rattle.core.specs.declared.stage.TakeStage.{TakeStage}
 use Rattle.core.specs.declared.stage.TakeStage.the-variants.{ReadFirst, All, One}
 use Rattle.core.specs.declared.stage.SourceStage.{SourceStage}
 use Rattle.core.specs.declared.stage.SourceStage.the-variants.{LoadFront, LoadBack, LoadRing, Take}
-use Rattle.words.specs.declared.slots.StageWords.{StageWords}
-use Rattle.words.specs.Slots.{indexOf, bare, withF, withB, withN, withCount, withJob}
+use Rattle.slots.specs.declared.StageWords.{StageWords}
+use Rattle.slots.specs.Slots.{indexOf, bare, withF, withB, withN, withCount, withJob}
 use Rattle.words.specs.Batch.{kindOf, withKind, withWanted, wantedOf, withHaul, haulOf}
 
 -- all at once

@@ -3,8 +3,8 @@ use lib.Dec.{eqb}
 use Rattle.base.specs.Tests.{pick}
 use Rattle.core.specs.declared.stage.LengthStage.{LengthStage}
 use Rattle.core.specs.declared.stage.LengthStage.the-variants.{LoadBack, LoadFront}
-use Rattle.words.specs.declared.slots.StageWords.{StageWords}
-use Rattle.words.specs.Slots.{indexOf, bare, withB}
+use Rattle.slots.specs.declared.StageWords.{StageWords}
+use Rattle.slots.specs.Slots.{indexOf, bare, withB}
 
 abbrev pub lengthWords : LengthStage → StageWords
 lengthWords LoadBack = bare 0

@@ -1,5 +1,3 @@
-pub mod Slots
-pub mod Queue
 pub mod Resize
 pub mod Push
 pub mod Pop
@@ -10,4 +8,3 @@ pub mod BatchSource
 pub mod BatchOwn
 pub mod Stage
 pub mod Slices
-pub mod Answer

@@ -10,8 +10,8 @@ use Rattle.core.specs.declared.stage.PopStage.{PopStage}
 use Rattle.core.specs.declared.stage.PopStage.the-variants.{Fifo, Lifo, Shrink}
 use Rattle.core.specs.declared.stage.Popper.{Popper}
 use Rattle.core.specs.declared.stage.Popper.the-variants.{Pop, BatchAndPop}
-use Rattle.words.specs.declared.slots.StageWords.{StageWords}
-use Rattle.words.specs.Slots.{indexOf, bare, withF, withB, withN, withJob}
+use Rattle.slots.specs.declared.StageWords.{StageWords}
+use Rattle.slots.specs.Slots.{indexOf, bare, withF, withB, withN, withJob}
 use Rattle.words.specs.Resize.{resizeWords, resizeOf}
 
 abbrev pub popperWord : Popper → ℕ

@@ -3,8 +3,8 @@ use lib.Dec.{eqb}
 use Rattle.base.specs.Tests.{pick}
 use Rattle.core.specs.declared.stage.PushStage.{PushStage}
 use Rattle.core.specs.declared.stage.PushStage.the-variants.{LoadBack, LoadFront, Resize, Write, StoreBack}
-use Rattle.words.specs.declared.slots.StageWords.{StageWords}
-use Rattle.words.specs.Slots.{indexOf, bare, withB}
+use Rattle.slots.specs.declared.StageWords.{StageWords}
+use Rattle.slots.specs.Slots.{indexOf, bare, withB}
 use Rattle.words.specs.Resize.{resizeWords, resizeOf}
 
 abbrev pub pushWords : PushStage → StageWords

@@ -3,8 +3,8 @@ use lib.Dec.{eqb}
 use Rattle.base.specs.Tests.{pick}
 use Rattle.core.specs.declared.stage.ResizeStage.{ResizeStage}
 use Rattle.core.specs.declared.stage.ResizeStage.the-variants.{LoadBack, LoadFront, Copy, Swap}
-use Rattle.words.specs.declared.slots.StageWords.{StageWords}
-use Rattle.words.specs.Slots.{indexOf, bare, withI, withEnd, withCapacity, withRing, ringOf}
+use Rattle.slots.specs.declared.StageWords.{StageWords}
+use Rattle.slots.specs.Slots.{indexOf, bare, withI, withEnd, withCapacity, withRing, ringOf}
 
 abbrev pub resizeWords : ResizeStage → StageWords
 resizeWords (LoadBack c) = withCapacity c (bare 10)

@@ -5,10 +5,10 @@ use mathlib.Core.List.{List, [], _∷_}
 use lib.Dec.{eqb}
 use lib.ListN.{length, getD, set}
 use Rattle.base.specs.Tests.{pick}
-use Rattle.words.specs.declared.queue.QueueWords.{QueueWords}
-use Rattle.words.specs.declared.slots.StageWords.{StageWords}
-use Rattle.words.specs.Queue.{queueWords, queueOf, sameQueueB}
-use Rattle.words.specs.Slots.{sameStageB}
+use Rattle.slots.specs.declared.queue.QueueWords.{QueueWords}
+use Rattle.slots.specs.declared.StageWords.{StageWords}
+use Rattle.slots.specs.Queue.{queueWords, queueOf, sameQueueB}
+use Rattle.slots.specs.Slots.{sameStageB}
 use Rattle.words.specs.Stage.{stageWords, stageOf}
 
 -- the number of `MACHINE_WORDS`

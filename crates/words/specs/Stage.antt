@@ -3,8 +3,8 @@ use lib.Dec.{eqb}
 use Rattle.base.specs.Tests.{pick}
 use Rattle.core.specs.declared.stage.Stage.{Stage}
 use Rattle.core.specs.declared.stage.Stage.the-variants.{Idle, Push, Pop, Steal, Length, OwnBatch, BatchSource, BatchOwn}
-use Rattle.words.specs.declared.slots.StageWords.{StageWords}
-use Rattle.words.specs.Slots.{bare, withOperation}
+use Rattle.slots.specs.declared.StageWords.{StageWords}
+use Rattle.slots.specs.Slots.{bare, withOperation}
 use Rattle.words.specs.Push.{pushWords, pushOf}
 use Rattle.words.specs.Pop.{popperWord, popperOf, popWords, popOf}
 use Rattle.words.specs.Stealing.{stealWords, stealOf}

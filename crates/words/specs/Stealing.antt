@@ -3,8 +3,8 @@ use lib.Dec.{eqb}
 use Rattle.base.specs.Tests.{pick}
 use Rattle.core.specs.declared.stage.StealStage.{StealStage}
 use Rattle.core.specs.declared.stage.StealStage.the-variants.{LoadFront, LoadBack, LoadRing, Read, ReloadRing, Exchange}
-use Rattle.words.specs.declared.slots.StageWords.{StageWords}
-use Rattle.words.specs.Slots.{indexOf, bare, withF, withJob, withRing, ringOf}
+use Rattle.slots.specs.declared.StageWords.{StageWords}
+use Rattle.slots.specs.Slots.{indexOf, bare, withF, withJob, withRing, ringOf}
 
 abbrev pub stealWords : StealStage → StageWords
 stealWords LoadFront = bare 0

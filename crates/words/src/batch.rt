@@ -1,9 +1,9 @@
 // What a batch remembers as words: its kind, what it wants, what it hauls.
 ghost use mathlib.Core.Path.{_≡_};
 ghost use Rattle.words.specs.Batch.{kindWord, kindOf, handWord, heldWord, handOf, withWanted, wantedOf, withHaul, haulOf};
-use crate::slots::StageWords;
-use crate::slots::index_of;
-use crate::slots::index_word;
+use slots::StageWords;
+use slots::index_of;
+use slots::index_word;
 use core::stage::BatchKind;
 use core::stage::Haul;
 use core::stage::InHand;

@@ -1,9 +1,9 @@
 // A length, and a batch from the own queue, as words: steps 0 and 1.
 ghost use mathlib.Core.Path.{_≡_};
 ghost use Rattle.words.specs.Length.{lengthWords, lengthOf};
-use crate::slots::StageWords;
-use crate::slots::index_of;
-use crate::slots::index_word;
+use slots::StageWords;
+use slots::index_of;
+use slots::index_word;
 use core::stage::LengthStage;
 
 pub fn length_words(at: LengthStage) -> StageWords

@@ -1,14 +1,11 @@
-// A machine's queues, stages and answers as 64-bit words, for firmware that keeps them so.
-pub mod answer;
+// The stages of threads as 64-bit words, and the words of a machine in a row.
 pub mod batch;
 pub mod batch_own;
 pub mod batch_source;
 pub mod length;
 pub mod pop;
 pub mod push;
-pub mod queue;
 pub mod resize;
 pub mod slices;
-pub mod slots;
 pub mod stage;
 pub mod stealing;

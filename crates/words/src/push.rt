@@ -3,9 +3,9 @@ ghost use mathlib.Core.Path.{_≡_};
 ghost use Rattle.words.specs.Push.{pushWords, pushOf};
 use crate::resize::resize_of;
 use crate::resize::resize_words;
-use crate::slots::StageWords;
-use crate::slots::index_of;
-use crate::slots::index_word;
+use slots::StageWords;
+use slots::index_of;
+use slots::index_word;
 use core::stage::PushStage;
 
 pub fn push_words(at: PushStage) -> StageWords

@@ -3,12 +3,12 @@ ghost use Prim.Native.Nat.{_+_, _≤_};
 ghost use mathlib.Core.Path.{_≡_};
 ghost use lib.ListN.{getD, set};
 ghost use Rattle.words.specs.Slices.{queueIn, stageIn, putQueue, putFour, putStage, queueB, stageB, machineB};
-use crate::queue::QueueWords;
-use crate::queue::queue_of;
-use crate::queue::queue_words;
-use crate::queue::same_queue;
-use crate::slots::StageWords;
-use crate::slots::same_stage;
+use slots::queue::QueueWords;
+use slots::queue::queue_of;
+use slots::queue::queue_words;
+use slots::queue::same_queue;
+use slots::StageWords;
+use slots::same_stage;
 use crate::stage::stage_of;
 use crate::stage::stage_words;
 

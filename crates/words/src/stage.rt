@@ -13,7 +13,7 @@ use crate::pop::popper_of;
 use crate::pop::popper_word;
 use crate::push::push_of;
 use crate::push::push_words;
-use crate::slots::StageWords;
+use slots::StageWords;
 use crate::stealing::steal_of;
 use crate::stealing::steal_words;
 use core::stage::Stage;

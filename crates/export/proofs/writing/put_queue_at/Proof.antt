@@ -1,6 +1,6 @@
 -- By what its calls ensure.
 use borrow.Author.Needs.{needs}
-use Rattle.words.specs.Queue.{queueOf}
+use Rattle.slots.specs.Queue.{queueOf}
 use Rattle.words.proofs.Steps.{tells}
 use Rattle.export.proofs.writing.put_queue_at.Statement.{statement}
 use Rattle.export.proofs.writing.put_queue_at.Tie as tie

@@ -1,7 +1,7 @@
 -- Each arm of `source_words` is its clause, and the steps are told apart by their numbers.
 use mathlib.Core.Path.{refl}
 use borrow.Author.Needs.{needs}
-use Rattle.words.specs.Slots.{indexOf}
+use Rattle.slots.specs.Slots.{indexOf}
 use Rattle.words.specs.Batch.{wantedOf, haulOf}
 use Rattle.words.specs.BatchSource.{takeOf}
 use Rattle.words.proofs.Steps.{tells, source-load-ring, source-take}

@@ -1,7 +1,7 @@
 -- Each arm of `push_words` is its clause, and the steps are told apart by their numbers.
 use mathlib.Core.Path.{refl}
 use borrow.Author.Needs.{needs}
-use Rattle.words.specs.Slots.{indexOf}
+use Rattle.slots.specs.Slots.{indexOf}
 use Rattle.words.specs.Resize.{resizeOf}
 use Rattle.words.proofs.Steps.{tells, push-resize}
 use Rattle.words.proofs.push.push_words.Statement.{statement}

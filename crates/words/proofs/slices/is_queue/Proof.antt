@@ -1,7 +1,7 @@
 -- By what its calls ensure.
 use mathlib.Core.Path.{ap, _∙_}
 use borrow.Author.Needs.{needs}
-use Rattle.words.specs.Queue.{queueWords, sameQueueB}
+use Rattle.slots.specs.Queue.{queueWords, sameQueueB}
 use Rattle.words.specs.Slices.{queueB}
 use Rattle.words.proofs.slices.is_queue.Statement.{statement}
 use Rattle.words.proofs.slices.is_queue.Tie as tie

@@ -1,7 +1,7 @@
 -- By what its calls ensure.
 use mathlib.Core.Path.{ap, _∙_}
 use borrow.Author.Needs.{needs}
-use Rattle.words.specs.Slots.{sameStageB}
+use Rattle.slots.specs.Slots.{sameStageB}
 use Rattle.words.specs.Stage.{stageWords}
 use Rattle.words.specs.Slices.{stageB}
 use Rattle.words.proofs.slices.is_stage.Statement.{statement}

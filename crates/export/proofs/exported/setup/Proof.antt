@@ -1,0 +1,50 @@
+-- Words that are not as many as a machine has are refused; otherwise by what the calls ensure.
+use borrow.Author.Needs.{needs}
+use borrow.Author.Tests.{eq-eqb, ne-eqb}
+use Rattle.export.specs.Exported.{setupWords}
+use Rattle.export.proofs.exported.setup.Statement.{statement}
+use Rattle.export.proofs.exported.setup.Tie as tie
+
+no-machine-requires : tie.Need-no-machine-requires
+no-machine-requires c κs = search needs
+
+returns : tie.Need-returns
+unfolding setupWords
+returns c = rw (c .no-machine .ensures, ne-eqb _ _ (c .before .if1 .taken))
+
+flavors-of-requires : tie.Need-flavors-of-requires
+flavors-of-requires c κs = search needs
+
+setup-requires : tie.Need-setup-requires
+setup-requires c κs = search needs
+
+store-requires : tie.Need-store-requires
+store-requires c κs = search needs
+
+answer-words-requires : tie.Need-answer-words-requires
+answer-words-requires c κs = search needs
+
+same-length : tie.Need-same-length
+same-length c = search needs
+
+returns-2 : tie.Need-returns-2
+unfolding setupWords
+returns-2 c =
+    let held = c .before .before .before .store in
+    let setup = c .before .before .before .before .before .before .setup in
+    let flavors = c .before .before .before .before .before .before .before .flavors-of in
+    let fits = eq-eqb _ _ (c .before .before .before .before .before .before .before .before .if1 .left) in
+    rw (c .answer-words .ensures, held .ensures .0, fits, ← flavors .ensures, ← setup .ensures)
+
+pub setup-spec : {M : Type 1} → statement M
+setup-spec =
+    tie.close
+    (tie.spec
+    no-machine-requires
+    returns
+    flavors-of-requires
+    setup-requires
+    store-requires
+    answer-words-requires
+    same-length
+    returns-2)

@@ -1,0 +1,43 @@
+// The functions that firmware links: the exported ones under names of their own.
+ghost use mathlib.Core.Path.{_≡_};
+ghost use Rattle.session.specs.Grammar.{kindOf};
+ghost use Rattle.export.specs.Exported.{setupWords, callWords, shownWords};
+use export::exported::call;
+use export::exported::setup;
+use export::exported::shown;
+
+#[no_mangle]
+pub extern "C" fn hub_queues_setup(
+    machine: &mut [u64],
+    pool: &[u64],
+    queues: usize,
+    flavors: u64,
+    places: usize,
+    answer: &mut [u64; 4],
+)
+    ensures { λ _. ⌜ (now (machine .exit), now (answer .exit)) ≡ setupWords (now (machine .entry)) (now (pool .entry)) queues flavors places ⌝ }
+{
+    setup(machine, pool, queues, flavors, places, answer);
+}
+
+#[no_mangle]
+pub extern "C" fn hub_queues_call(
+    machine: &mut [u64],
+    pool: &mut [u64],
+    thread: usize,
+    kind: u64,
+    source: usize,
+    operand: u64,
+    answer: &mut [u64; 4],
+)
+    ensures { λ _. ⌜ (now (machine .exit), now (pool .exit), now (answer .exit)) ≡ callWords (now (machine .entry)) (now (pool .entry)) thread (kindOf kind) source operand ⌝ }
+{
+    call(machine, pool, thread, kind, source, operand, answer);
+}
+
+#[no_mangle]
+pub extern "C" fn hub_queues_shown(machine: &[u64], pool: &[u64], queue: usize) -> usize
+    ensures { λ r. ⌜ r ≡ shownWords (now (machine .entry)) (now (pool .entry)) queue ⌝ }
+{
+    shown(machine, pool, queue)
+}

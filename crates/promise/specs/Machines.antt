@@ -1,0 +1,38 @@
+-- Wrong machines, and the machine that the promise of `step` is tried on.
+use Prim.Native.Nat.{ℕ}
+use mathlib.Core.List.{List}
+use lib.IntN.{pos}
+use Rattle.steal.specs.declared.Steal.the-variants as T
+use Rattle.core.specs.declared.answer.Answer.the-variants as A
+use Rattle.core.specs.declared.answer.Refusal.the-variants.{NoSuch}
+use Rattle.machine.specs.declared.state.Machine.{Machine}
+use Rattle.machine.specs.State.{After, after, refused}
+use Rattle.machine.specs.Step.{stepOf}
+use Rattle.games.specs.Play.{steps}
+
+abbrev pub Steps : Type 0
+Steps = Machine → List ℕ → ℕ → After
+
+abbrev pub refuses : Steps
+refuses m cells t = refused m NoSuch cells
+
+abbrev pub says-empty : Steps
+says-empty m cells t = after m (A.Stolen T.Empty) cells
+
+abbrev pub says-retry : Steps
+says-retry m cells t = after m (A.Stolen T.Retry) cells
+
+-- it answers as it should and leaves all as it was: a push that is done stores nothing, and a job that is stolen stays, so that it is copied
+abbrev pub stands-still : Steps
+stands-still m cells t = after m (stepOf m cells t .called .answer) cells
+
+-- it does a whole push at its first step, and then idles
+abbrev pub does-all : Steps
+does-all m cells t = steps t 4 (after m A.Working cells)
+
+abbrev pub makes-up : Steps
+makes-up m cells t = after m (A.Length (pos 7) 7) cells
+
+-- each must-fail edit puts a wrong machine here
+abbrev pub tested : Steps
+tested = stepOf
