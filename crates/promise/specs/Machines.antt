@@ -1,10 +1,13 @@
 -- Wrong machines, and the machine that the promise of `step` is tried on.
 use Prim.Native.Nat.{ℕ}
-use mathlib.Core.List.{List}
+use mathlib.Core.List.{List, []}
+use lib.Dec.{eqb}
 use lib.IntN.{pos}
+use Rattle.base.specs.Tests.{pick}
 use Rattle.steal.specs.declared.Steal.the-variants as T
 use Rattle.core.specs.declared.answer.Answer.the-variants as A
 use Rattle.core.specs.declared.answer.Refusal.the-variants.{NoSuch}
+use Rattle.core.specs.Answers.{told}
 use Rattle.machine.specs.declared.state.Machine.{Machine}
 use Rattle.machine.specs.State.{After, after, refused}
 use Rattle.machine.specs.Step.{stepOf}
@@ -32,6 +35,12 @@ does-all m cells t = steps t 4 (after m A.Working cells)
 
 abbrev pub makes-up : Steps
 makes-up m cells t = after m (A.Length (pos 7) 7) cells
+
+-- it answers as it should, and a refused call loses the cells
+abbrev pub loses-cells : Steps
+loses-cells m cells t =
+    let a : After = stepOf m cells t in
+    after (a .called .machine) (a .called .answer) (pick (eqb (told (a .called .answer) .kind) 10) [] (a .cells))
 
 -- each must-fail edit puts a wrong machine here
 abbrev pub tested : Steps

@@ -1,13 +1,13 @@
 // What a batch remembers as words: its kind, what it wants, what it hauls.
 ghost use mathlib.Core.Path.{_≡_};
 ghost use Rattle.words.specs.Batch.{kindWord, kindOf, handWord, heldWord, handOf, withWanted, wantedOf, withHaul, haulOf};
-use slots::StageWords;
-use slots::index_of;
-use slots::index_word;
 use core::stage::BatchKind;
 use core::stage::Haul;
 use core::stage::InHand;
 use core::stage::Wanted;
+use slots::StageWords;
+use slots::index_of;
+use slots::index_word;
 
 pub fn kind_word(kind: BatchKind) -> u64
     ensures { λ r. ⌜ r ≡ kindWord kind ⌝ }

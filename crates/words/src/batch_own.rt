@@ -7,13 +7,13 @@ use crate::batch::with_haul;
 use crate::batch::with_wanted;
 use crate::resize::resize_of;
 use crate::resize::resize_words;
-use slots::StageWords;
-use slots::index_of;
-use slots::index_word;
 use core::stage::OwnStage;
 use core::stage::PutStage;
 use core::stage::ReserveStage;
 use core::stage::SwapStage;
+use slots::StageWords;
+use slots::index_of;
+use slots::index_word;
 
 fn reserve_words(at: ReserveStage) -> StageWords
     ensures { λ r. ⌜ r ≡ reserveWords at ⌝ }

@@ -7,13 +7,13 @@ use crate::batch::kind_word;
 use crate::batch::wanted_of;
 use crate::batch::with_haul;
 use crate::batch::with_wanted;
-use slots::StageWords;
-use slots::index_of;
-use slots::index_word;
 use core::stage::AllStage;
 use core::stage::OneStage;
 use core::stage::SourceStage;
 use core::stage::TakeStage;
+use slots::StageWords;
+use slots::index_of;
+use slots::index_word;
 
 fn all_words(at: AllStage) -> StageWords
     ensures { λ r. ⌜ r ≡ allWords at ⌝ }

@@ -1,10 +1,10 @@
 // A length, and a batch from the own queue, as words: steps 0 and 1.
 ghost use mathlib.Core.Path.{_≡_};
 ghost use Rattle.words.specs.Length.{lengthWords, lengthOf};
+use core::stage::LengthStage;
 use slots::StageWords;
 use slots::index_of;
 use slots::index_word;
-use core::stage::LengthStage;
 
 pub fn length_words(at: LengthStage) -> StageWords
     ensures { λ r. ⌜ r ≡ lengthWords at ⌝ }

@@ -3,13 +3,13 @@ ghost use mathlib.Core.Path.{_≡_};
 ghost use Rattle.words.specs.Pop.{popperWord, popperOf, fifoWords, fifoOf, lifoWords, lifoOf, popWords, popOf};
 use crate::resize::resize_of;
 use crate::resize::resize_words;
-use slots::StageWords;
-use slots::index_of;
-use slots::index_word;
 use core::stage::FifoPopStage;
 use core::stage::LifoPopStage;
 use core::stage::PopStage;
 use core::stage::Popper;
+use slots::StageWords;
+use slots::index_of;
+use slots::index_word;
 
 pub fn popper_word(by: Popper) -> u64
     ensures { λ r. ⌜ r ≡ popperWord by ⌝ }

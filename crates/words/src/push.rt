@@ -3,10 +3,10 @@ ghost use mathlib.Core.Path.{_≡_};
 ghost use Rattle.words.specs.Push.{pushWords, pushOf};
 use crate::resize::resize_of;
 use crate::resize::resize_words;
+use core::stage::PushStage;
 use slots::StageWords;
 use slots::index_of;
 use slots::index_word;
-use core::stage::PushStage;
 
 pub fn push_words(at: PushStage) -> StageWords
     ensures { λ r. ⌜ r ≡ pushWords at ⌝ }

@@ -1,10 +1,10 @@
 // A resize as words: steps 10 to 13 of a push, a pop and a batch.
 ghost use mathlib.Core.Path.{_≡_};
 ghost use Rattle.words.specs.Resize.{resizeWords, resizeOf};
+use core::stage::ResizeStage;
 use slots::StageWords;
 use slots::index_of;
 use slots::index_word;
-use core::stage::ResizeStage;
 
 pub fn resize_words(at: ResizeStage) -> StageWords
     ensures { λ r. ⌜ r ≡ resizeWords at ⌝ }

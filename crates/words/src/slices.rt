@@ -3,14 +3,14 @@ ghost use Prim.Native.Nat.{_+_, _≤_};
 ghost use mathlib.Core.Path.{_≡_};
 ghost use lib.ListN.{getD, set};
 ghost use Rattle.words.specs.Slices.{queueIn, stageIn, putQueue, putFour, putStage, queueB, stageB, machineB};
+use crate::stage::stage_of;
+use crate::stage::stage_words;
+use slots::StageWords;
 use slots::queue::QueueWords;
 use slots::queue::queue_of;
 use slots::queue::queue_words;
 use slots::queue::same_queue;
-use slots::StageWords;
 use slots::same_stage;
-use crate::stage::stage_of;
-use crate::stage::stage_words;
 
 // The words of a machine: three counts, six for each queue, sixteen for each thread.
 pub const MACHINE_WORDS: usize = 91;

@@ -13,10 +13,10 @@ use crate::pop::popper_of;
 use crate::pop::popper_word;
 use crate::push::push_of;
 use crate::push::push_words;
-use slots::StageWords;
 use crate::stealing::steal_of;
 use crate::stealing::steal_words;
 use core::stage::Stage;
+use slots::StageWords;
 
 pub fn stage_words(stage: Stage) -> StageWords
     ensures { λ r. ⌜ r ≡ stageWords stage ⌝ }

@@ -1,10 +1,10 @@
 // A steal as words: steps 0 to 5.
 ghost use mathlib.Core.Path.{_≡_};
 ghost use Rattle.words.specs.Stealing.{stealWords, stealOf};
+use core::stage::StealStage;
 use slots::StageWords;
 use slots::index_of;
 use slots::index_word;
-use core::stage::StealStage;
 
 pub fn steal_words(at: StealStage) -> StageWords
     ensures { λ r. ⌜ r ≡ stealWords at ⌝ }
