@@ -21,7 +21,7 @@ use Rattle.machine.specs.Setup.{setupOf}
 use Rattle.machine.specs.Step.{gateOf, stepOf}
 use Rattle.machine.specs.Begin.{beginOf}
 use Rattle.games.specs.Play.{setup, begin, steps, alone, finish, answerOf}
-use Rattle.promise.specs.Machines.{Steps, refuses, says-empty, says-retry, stands-still, does-all, makes-up, loses-cells, tested}
+use Rattle.promise.specs.Machines.{Steps, refuses, says-empty, says-retry, stands-still, leaves-stolen, does-all, makes-up, loses-cells, tested}
 
 abbrev at : Steps → After → After
 at w s = w (s .called .machine) (s .cells) 0
@@ -74,7 +74,7 @@ pub promised : (kind (at tested begun) ≡ 0) × (back (at tested written) ≡ 1
 unfolding steps finish allBelow anyBelow firstNot wrap plusOf differenceOf lengthOf behindB emptyB fullB spansB sameB cellOf allowedB standsB spot readOf writtenOf soundB freeRing setupOf gateOf stepOf beginOf ones onesIn
 promised = (refl, refl, refl, refl, refl)
 
-pub shown : (back (at stands-still written) ≡ 0) × (front (at stands-still stealing) ≡ 0) × (kind (at does-all begun) ≡ 1) × (many (at loses-cells idling) ≡ 0)
+pub shown : (back (at stands-still written) ≡ 0) × (front (at leaves-stolen stealing) ≡ 0) × (kind (at does-all begun) ≡ 1) × (many (at loses-cells idling) ≡ 0)
 unfolding steps finish allBelow anyBelow firstNot wrap plusOf differenceOf lengthOf behindB emptyB fullB spansB sameB cellOf allowedB standsB spot readOf writtenOf soundB freeRing setupOf gateOf stepOf beginOf ones onesIn
 shown = (refl, refl, refl, refl)
 
@@ -92,8 +92,8 @@ always-retry = shut-out says-retry kind begun 6 0 refl (promised .0) (λ e. omeg
 pub never-moves : Keeps stands-still → ⊥
 never-moves = shut-out stands-still back written 0 1 (shown .0) (promised .1) (λ e. omega arith)
 
-pub copies-jobs : Keeps stands-still → ⊥
-copies-jobs = shut-out stands-still front stealing 0 1 (shown .1) (promised .2) (λ e. omega arith)
+pub copies-jobs : Keeps leaves-stolen → ⊥
+copies-jobs = shut-out leaves-stolen front stealing 0 1 (shown .1) (promised .2) (λ e. omega arith)
 
 pub all-at-once : Keeps does-all → ⊥
 all-at-once = shut-out does-all kind begun 1 0 (shown .2) (promised .0) (λ e. omega arith)

@@ -25,9 +25,15 @@ says-empty m cells t = after m (A.Stolen T.Empty) cells
 abbrev pub says-retry : Steps
 says-retry m cells t = after m (A.Stolen T.Retry) cells
 
--- it answers as it should and leaves all as it was: a push that is done stores nothing, and a job that is stolen stays, so that it is copied
+-- it answers as it should and leaves all as it was: a push that is done stores nothing
 abbrev pub stands-still : Steps
 stands-still m cells t = after m (stepOf m cells t .called .answer) cells
+
+-- it answers a stolen job and leaves the queue as it was: the job is there to be taken again
+abbrev pub leaves-stolen : Steps
+leaves-stolen m cells t =
+    let a : After = stepOf m cells t in
+    after (pick (eqb (told (a .called .answer) .kind) 5) m (a .called .machine)) (a .called .answer) (a .cells)
 
 -- it does a whole push at its first step, and then idles
 abbrev pub does-all : Steps
