@@ -12,17 +12,14 @@ use Rattle.base.specs.Tests.{pick, both}
 use Rattle.core.specs.declared.queue.Queue.{Queue}
 use Rattle.core.specs.declared.stage.Stage.{Stage}
 use Rattle.core.specs.Queues.{zeroQueue}
-use Rattle.machine.specs.declared.state.Thread.{Thread}
 use Rattle.machine.specs.declared.state.Machine.{Machine}
 use Rattle.machine.specs.State.{idleThread}
-use Rattle.slots.specs.declared.queue.QueueWords.{QueueWords}
-use Rattle.slots.specs.declared.StageWords.{StageWords}
 use Rattle.slots.specs.Queue.{queueWords, queueOf, sameQueueB}
 use Rattle.slots.specs.Slots.{sameStageB}
 use Rattle.words.specs.Stage.{stageWords, stageOf}
 use Rattle.words.specs.Slices.{queueIn, stageIn, putQueue, putFour, putStage, machineSize, queueB, stageB, machineB}
 use Rattle.slots.proofs.Same.{same-queue, same-queue-self, same-stage, same-stage-self}
-use Rattle.export.specs.Words.{machineIn, putCounts, machinePut, QueuesTold, ThreadsTold, Told}
+use Rattle.export.specs.Words.{machineIn, machinePut, QueuesTold, ThreadsTold, Told}
 
 -- ---- a list by its elements
 

@@ -2,7 +2,7 @@
 use mathlib.Core.Path.{_≡_, refl}
 use mathlib.Core.List.{[], _∷_}
 use lib.Count.{ones, onesIn}
-use Rattle.base.specs.Below.{allBelow, anyBelow, firstNot}
+use Rattle.base.specs.Below.{allBelow}
 use Rattle.index.specs.Index.{wrap, differenceOf, spansB}
 use Rattle.ring.specs.Capacity.{allowedB}
 use Rattle.core.specs.declared.queue.Flavor.the-variants.{Fifo}
