@@ -14,8 +14,8 @@ use Rattle.core.specs.Out.{Left, left, going, ended}
 use Rattle.op_push.specs.declared.PushOut.{PushOut}
 use Rattle.op_push.specs.declared.PushOut.the-variants as U
 use Rattle.op_push.specs.Push.{pushOf}
-use Rattle.op_pop.specs.declared.PopOut.{PopOut}
-use Rattle.op_pop.specs.declared.PopOut.the-variants as P
+use Rattle.op_shrink.specs.declared.PopOut.{PopOut}
+use Rattle.op_shrink.specs.declared.PopOut.the-variants as P
 use Rattle.op_pop.specs.Pop.{popOf}
 use Rattle.op_steal.specs.declared.StealOut.{StealOut}
 use Rattle.op_steal.specs.declared.StealOut.the-variants as T

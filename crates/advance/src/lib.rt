@@ -28,10 +28,10 @@ use op_batch_source::source_step;
 use op_length::LengthOut;
 use op_length::length_step;
 use op_length::own_batch_step;
-use op_pop::PopOut;
 use op_pop::pop_step;
 use op_push::PushOut;
 use op_push::push_step;
+use op_shrink::PopOut;
 use op_steal::StealOut;
 use op_steal::steal_step;
 

@@ -33,7 +33,11 @@ le-or-lt m n = go (leb m n) refl
     go true e = inl (leb-true m n e)
     go false e = inr (leb-false m n e)
 
--- both of two tests that hold together
+-- both hold, so the test of both does
+pub and-both : (a b : Bool) → a ≡ true → b ≡ true → (a && b) ≡ true
+and-both a b e f = rw (e, f)
+
+-- the test of both holds, so both do
 pub both : (a b : Bool) → (a && b) ≡ true → (a ≡ true) × (b ≡ true)
 both true b e = (refl, e)
 both false b e = absurd (let w : _≡_ {A = ℕ} 0 1 = cc in omega arith)

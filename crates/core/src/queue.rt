@@ -1,7 +1,7 @@
 // A queue: its flavour, front and back, and the ring that it has now.
 ghost use mathlib.Core.Path.{_≡_};
 ghost use lib.ListN.{getD};
-ghost use Rattle.core.specs.Queues.{zeroQueue};
+ghost use Rattle.core.specs.Queues.{flavorOf, zeroQueue};
 use index::Index;
 use ring::PlaceNumber;
 use ring::Ring;
@@ -18,6 +18,16 @@ pub struct Queue {
     pub front: Index,
     pub back: Index,
     pub ring: Ring,
+}
+
+// 0 FIFO, otherwise LIFO.
+pub fn flavor_of(number: u64) -> Flavor
+    ensures { λ r. ⌜ r ≡ flavorOf number ⌝ }
+{
+    if number == 0 {
+        return Flavor::Fifo;
+    }
+    Flavor::Lifo
 }
 
 pub fn zero_queue() -> Queue

@@ -8,7 +8,7 @@ use native.Mathlib.Omega.{arith}
 use lib.ListN.{length, getD, set, drop, drop-of-length-le}
 use lib.Seq.{drop-cons}
 use lib.Dec.{eqb}
-use Rattle.base.specs.Tests.{pick, both}
+use Rattle.base.specs.Tests.{pick, both, and-both}
 use Rattle.core.specs.declared.queue.Queue.{Queue}
 use Rattle.core.specs.declared.stage.Stage.{Stage}
 use Rattle.core.specs.Queues.{zeroQueue}
@@ -43,9 +43,6 @@ queue-told q h = ap (λ (x : Queue). sameQueueB (queueWords q) (queueWords x)) h
 
 stage-told : (s : Stage) → stageOf (stageWords s) ≡ s → stageB (stageWords s) ≡ true
 stage-told s h = ap (λ (x : Stage). sameStageB (stageWords s) (stageWords x)) h ∙ same-stage-self (stageWords s)
-
-and-both : (a b : Bool) → a ≡ true → b ≡ true → (a && b) ≡ true
-and-both a b e f = rw (e, f)
 
 module _ (l : List ℕ) (m : Machine) (hq : QueuesTold (m .queues)) (ht : ThreadsTold (m .threads)) where
   abbrev put : List ℕ

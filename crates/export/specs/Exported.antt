@@ -7,21 +7,26 @@ use Rattle.base.specs.Tests.{pick}
 use Rattle.core.specs.declared.answer.Answer.the-variants.{Refused}
 use Rattle.core.specs.declared.answer.Refusal.the-variants.{Unsound}
 use Rattle.gate.specs.declared.Request.{Request}
+use Rattle.machine.specs.declared.state.Called.{Called}
 use Rattle.machine.specs.State.{After}
 use Rattle.machine.specs.Setup.{setupOf}
 use Rattle.machine.specs.Call.{callOf}
 use Rattle.machine.specs.Shown.{shownOf}
-use Rattle.session.specs.declared.grammar.KindRead.{KindRead}
-use Rattle.session.specs.declared.grammar.KindRead.the-variants.{Kind, Wrong}
-use Rattle.session.specs.Grammar.{requestOf}
+use Rattle.kinds.specs.declared.KindRead.{KindRead}
+use Rattle.kinds.specs.declared.KindRead.the-variants.{Kind, Wrong}
+use Rattle.kinds.specs.Kinds.{requestOf}
 use Rattle.slots.specs.Queue.{flavorsOf}
 use Rattle.slots.specs.Answer.{answerWords}
 use Rattle.words.specs.Slices.{machineSize, machineB}
-use Rattle.export.specs.Words.{machineIn, machinePut}
+use Rattle.export.specs.Words.{machineIn, machinePut, storedOf}
 
 -- words that are no machine are refused
 abbrev pub unsoundWords : List ℕ
 unsoundWords = answerWords (Refused Unsound)
+
+-- what a call left of the machine, and its answer
+abbrev pub leftWords : List ℕ → Called → List ℕ × List ℕ
+leftWords w c = (storedOf w (c .machine), answerWords (c .answer))
 
 abbrev pub setWords : List ℕ → After → List ℕ × List ℕ
 setWords w a = (machinePut w (a .called .machine), answerWords (a .called .answer))

@@ -1,16 +1,17 @@
 // What firmware calls, through `hub_queues`. The machine is lent as 91 words, the pool as its cells; the answer is put into four words.
 ghost use mathlib.Core.Path.{_≡_};
-ghost use Rattle.session.specs.Grammar.{kindOf};
-ghost use Rattle.export.specs.Exported.{unsoundWords, setupWords, askedWords, callWords, shownWords};
+ghost use Rattle.kinds.specs.Kinds.{kindOf};
+ghost use Rattle.export.specs.Exported.{unsoundWords, leftWords, setupWords, askedWords, callWords, shownWords};
 use crate::reading::machine_in;
 use crate::writing::store;
 use core::answer::Answer;
 use core::answer::Refusal;
 use gate::Request;
+use kinds::KindRead;
+use kinds::kind_of;
+use kinds::request_of;
+use machine::state::Called;
 use machine::state::Machine;
-use session::grammar::KindRead;
-use session::grammar::kind_of;
-use session::grammar::request_of;
 use slots::answer::answer_words;
 use slots::queue::flavors_of;
 use words::slices::MACHINE_WORDS;
@@ -24,6 +25,15 @@ fn no_machine() -> [u64; 4]
     ensures { λ r. ⌜ r ≡ unsoundWords ⌝ }
 {
     answer_words(Answer::Refused(Refusal::Unsound))
+}
+
+// What a call left, as words: the machine's, and the answer's.
+fn leave(machine: &mut [u64], called: Called) -> [u64; 4]
+    ensures { λ r. ⌜ (now (machine .exit), r) ≡ leftWords (now (machine .entry)) called ⌝ }
+{
+    store(machine, called.machine);
+    let answer = called.answer;
+    answer_words(answer)
 }
 
 pub fn setup(
@@ -41,10 +51,7 @@ pub fn setup(
         return;
     }
     let called = Machine::setup(queues, flavors_of(flavors), places, pool);
-    let next = called.machine;
-    let said = called.answer;
-    store(machine, next);
-    *answer = answer_words(said);
+    *answer = leave(machine, called);
 }
 
 // A call that is asked for.
@@ -55,10 +62,7 @@ fn ask(machine: &mut [u64], pool: &mut [u64], thread: usize, request: Request) -
         return no_machine();
     }
     let called = machine_in(machine).call(pool, thread, request);
-    let next = called.machine;
-    let said = called.answer;
-    store(machine, next);
-    answer_words(said)
+    leave(machine, called)
 }
 
 // kind: 0 step, 1 push (operand: job), 2 pop, 3 length of the own queue, 4 length, 5 steal, 6 batch (operand: limit), 7 batch and pop (operand:

@@ -1,6 +1,6 @@
 // The functions that firmware links: the exported ones under names of their own.
 ghost use mathlib.Core.Path.{_≡_};
-ghost use Rattle.session.specs.Grammar.{kindOf};
+ghost use Rattle.kinds.specs.Kinds.{kindOf};
 ghost use Rattle.export.specs.Exported.{setupWords, callWords, shownWords};
 use export::exported::call;
 use export::exported::setup;

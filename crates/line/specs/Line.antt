@@ -4,7 +4,7 @@ use mathlib.Core.List.{List, [], _++_}
 use lib.Dec.{ltb}
 use lib.ListN.{getD}
 use Rattle.base.specs.Tests.{pick}
-use Rattle.text.specs.Writing.{ascii, decimal, signed}
+use Rattle.writing.specs.Writing.{ascii, decimal, signed}
 use Rattle.steal.specs.declared.Steal.{Steal}
 use Rattle.steal.specs.declared.Steal.the-variants.{Empty, Success, Retry}
 use Rattle.ring.specs.declared.Ring.{Ring}

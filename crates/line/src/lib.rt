@@ -2,7 +2,7 @@
 ghost use mathlib.Core.Path.{_≡_};
 ghost use mathlib.Core.List.{_++_};
 ghost use Rattle.core.specs.declared.answer.Answer.the-variants.{Length};
-ghost use Rattle.text.specs.Writing.{page as pageOf, put, signed, decimal};
+ghost use Rattle.writing.specs.Writing.{page as pageOf, put, signed, decimal};
 ghost use Rattle.line.specs.Line.{stolenText, answerText, ringText, queueText, queueTextIf, callText, setupText, badText};
 use core::answer::Answer;
 use core::queue::Queue;
@@ -10,9 +10,9 @@ use core::queue::queue_of;
 use index::Index;
 use ring::Ring;
 use steal::Steal;
-use text::writing::put_number;
-use text::writing::put_signed;
-use text::writing::put_text;
+use writing::put_number;
+use writing::put_signed;
+use writing::put_text;
 
 fn put_told(page: &mut [u8], at: usize, text: &[u8], n: u64) -> usize
     ensures { λ r. ⌜ pageOf (now (page .exit)) r ≡ put (now (page .entry)) at (now (text .entry) ++ decimal n) ⌝ }

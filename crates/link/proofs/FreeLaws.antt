@@ -10,8 +10,8 @@ use borrow.Author.Tests.{eq-eqb}
 use Rattle.base.specs.Tests.{pick}
 use Rattle.base.specs.Below.{anyBelow, firstNot, any-at}
 use Rattle.ring.specs.declared.Ring.{Ring}
-use Rattle.core.specs.Kept.{keptOf}
-use Rattle.sound.specs.Sound.{keepsIn}
+use Rattle.keeps.specs.Kept.{keptOf}
+use Rattle.places.specs.Places.{keepsIn}
 use Rattle.machine.specs.declared.state.Machine.{Machine}
 use Rattle.machine.specs.State.{queueAt}
 use Rattle.machine.specs.Claim.{usedBy, usedB, freePlace}

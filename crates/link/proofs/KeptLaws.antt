@@ -3,8 +3,8 @@ use mathlib.Core.Path.{_≡_, refl}
 use Prim.Native.Nat.{ℕ}
 use native.Mathlib.Omega.{arith}
 use Rattle.ring.specs.declared.Ring.{Ring}
-use Rattle.core.specs.declared.kept.Kept.the-variants as Q
-use Rattle.core.specs.Kept.{resizeKeeps, pushKeeps, stealKeeps, sourceKeeps, ownKeeps, keptOf}
+use Rattle.keeps.specs.declared.Kept.the-variants as Q
+use Rattle.keeps.specs.Kept.{resizeKeeps, pushKeeps, stealKeeps, sourceKeeps, ownKeeps, keptOf}
 use Rattle.model.specs.Stage.{ResizeStage, resize-back, resize-front, resize-copy, resize-swap, PushStage, push-back, push-front, push-resize}
 use Rattle.model.specs.Stage.{push-write, push-store, own, Popper, StealStage, steal-front, steal-back, steal-ring, steal-read, steal-reload}
 use Rattle.model.specs.Stage.{steal-exchange, source, SourceStage, source-front, source-back, source-ring, source-first, all-copy, all-reload}

@@ -8,7 +8,7 @@ use native.Mathlib.Omega.{arith}
 use lib.Dec.{leb}
 use lib.ListN.{length, getD}
 use borrow.Author.Tests.{lt-ltb, leb-true}
-use Rattle.base.specs.Tests.{both}
+use Rattle.base.specs.Tests.{both, and-both}
 use Rattle.ring.specs.declared.Ring.{Ring}
 use Rattle.ring.specs.Capacity.{smallest}
 use Rattle.ring.proofs.CapacityLaws.{smallest-allowed}
@@ -26,7 +26,6 @@ use Rattle.model.proofs.CountLaws.{upd-other, stand-empty, sum-cong, sum-zero}
 use Rattle.model.proofs.Good.{ok-rest}
 use Rattle.link.specs.Map.{flavorOf, stageFor, queueFor, flavourOf}
 use Rattle.link.specs.Linked.{poolOf, Linked, Behind}
-use Rattle.link.proofs.SoundLaws.{and-both}
 use Rattle.link.proofs.StoreLaws.{few-queues}
 use Rattle.link.proofs.Agree.{agree}
 

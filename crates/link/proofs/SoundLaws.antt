@@ -8,12 +8,14 @@ use native.Mathlib.Omega.{arith}
 use native.Mathlib.Decide.{ℕ-discrete}
 use lib.Dec.{eqb}
 use borrow.Author.Tests.{le-leb, lt-ltb, eq-eqb, ne-eqb}
+use Rattle.base.specs.Tests.{and-both}
 use Rattle.base.specs.Below.{allBelow}
 use Rattle.index.proofs.Laws.{spans-is}
 use Rattle.ring.specs.declared.Ring.{Ring}
 use Rattle.ring.specs.Capacity.{largest}
-use Rattle.core.specs.Kept.{keptOf}
-use Rattle.sound.specs.Sound.{queueSound, keptSound, namedSound, resizeSound, pushSound, sourceSound, ownSound, numbersSound, stageSound, haulSound, buildsIn, bothBuild}
+use Rattle.keeps.specs.Kept.{keptOf}
+use Rattle.sound.specs.Sound.{queueSound, keptSound, namedSound, resizeSound, pushSound, sourceSound, ownSound, numbersSound, stageSound, haulSound}
+use Rattle.places.specs.Places.{buildsIn, bothBuild}
 use Rattle.machine.specs.declared.state.Machine.{Machine}
 use Rattle.machine.specs.State.{queueAt, stageAt}
 use Rattle.machine.specs.Sound.{apartB, soundB}
@@ -35,9 +37,6 @@ all-of : (n : ℕ) (f : ℕ → Bool) → ((i : ℕ) → i < n → f i ≡ true)
 unfolding allBelow
 all-of zero f h = refl
 all-of (suc n) f h = rw (all-of n f (λ i l. h i (omega arith)), h n (omega arith))
-
-pub and-both : (a b : Bool) → a ≡ true → b ≡ true → (a && b) ≡ true
-and-both a b e f = rw (e, f)
 
 module _ (n : ℕ) (fl : ℕ → Flavour) (R : ℕ → ℕ → Ring) (s : State) (m : Machine) (cells : List ℕ) (w : Linked n fl R s m cells) (mem : ℕ → ℕ)
     (v : Inv n fl mem s)

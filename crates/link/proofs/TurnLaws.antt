@@ -11,14 +11,14 @@ use lib.Dec.{T, ltb}
 use lib.ListN.{length}
 use lib.Seq.{getD-set-same, getD-set-other}
 use borrow.Author.Tests.{lt-ltb, eq-eqb, ltb-true}
-use Rattle.base.specs.Tests.{tests}
+use Rattle.base.specs.Tests.{tests, and-both}
 use Rattle.ring.specs.declared.Ring.{Ring}
 use Rattle.ring.specs.Capacity.{allowedB}
 use Rattle.cells.specs.Cells.{placeCells}
 use Rattle.core.specs.declared.out.Claim.{Claim as CodeClaim}
 use Rattle.core.specs.declared.out.Claim.the-variants as J
 use Rattle.core.specs.Out.{left}
-use Rattle.core.specs.Stages.{touchedOf, idleB, claimsB}
+use Rattle.stages.specs.Stages.{touchedOf, idleB, claimsB}
 use Rattle.advance.specs.Advance.{advanceOf}
 use Rattle.gate.specs.declared.Gate.the-variants.{Open}
 use Rattle.machine.specs.declared.state.Machine.{Machine}
@@ -44,7 +44,7 @@ use Rattle.link.proofs.PoolLaws.{sound-allowed}
 use Rattle.link.proofs.LinkedLaws.{reads}
 use Rattle.link.proofs.KeptLaws.{builds-one}
 use Rattle.link.proofs.FreeLaws.{place-free}
-use Rattle.link.proofs.SoundLaws.{and-both, linked-sound}
+use Rattle.link.proofs.SoundLaws.{linked-sound}
 use Rattle.link.proofs.NameLaws.{extend, extend-same, extend-other, renamed}
 use Rattle.link.proofs.StoreLaws.{putBack, nextAfter, put-back, few-queues, stored-linked}
 use Rattle.link.proofs.SizeLaws.{step-fits}

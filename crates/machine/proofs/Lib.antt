@@ -1,3 +1,3 @@
 pub mod StateLaws
+pub mod KeptLaws
 pub mod SetupLaws
-pub mod Loops

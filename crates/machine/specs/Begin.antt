@@ -19,7 +19,7 @@ use Rattle.core.specs.declared.stage.SourceStage.the-variants as S
 use Rattle.core.specs.declared.stage.Stage.{Stage}
 use Rattle.core.specs.declared.stage.Stage.the-variants as G
 use Rattle.core.specs.declared.answer.Answer.the-variants.{Working}
-use Rattle.core.specs.Stages.{idleB}
+use Rattle.stages.specs.Stages.{idleB}
 use Rattle.gate.specs.declared.Operation.{Operation}
 use Rattle.gate.specs.declared.Operation.the-variants.{Push, Pop, Length, Steal, Batch, BatchAndPop}
 use Rattle.gate.specs.Gate.{ownQueue, beginTests, thenGate}

@@ -8,6 +8,8 @@ use Rattle.core.specs.declared.queue.Queue.{Queue}
 use Rattle.core.specs.Queues.{zeroQueue}
 use Rattle.core.specs.declared.stage.Stage.{Stage}
 use Rattle.core.specs.declared.stage.Stage.the-variants.{Idle}
+use Rattle.keeps.specs.declared.Kept.{Kept}
+use Rattle.keeps.specs.Kept.{keptOf}
 use Rattle.core.specs.declared.answer.Answer.{Answer}
 use Rattle.core.specs.declared.answer.Answer.the-variants.{Refused}
 use Rattle.core.specs.declared.answer.Refusal.{Refusal}
@@ -43,6 +45,10 @@ queueAt m k = getD (m .queues) k zeroQueue
 
 abbrev pub stageAt : Machine → ℕ → Stage
 stageAt m t = getD (m .threads) t idleThread .stage
+
+-- the ring that thread t keeps
+abbrev pub keptAt : Machine → ℕ → Kept
+keptAt m t = keptOf (stageAt m t)
 
 abbrev pub withQueue : Machine → ℕ → Queue → Machine
 withQueue m k q = record {

@@ -6,7 +6,7 @@ use lib.ListN.{length}
 use Rattle.core.specs.declared.stage.Stage.{Stage}
 use Rattle.core.specs.declared.out.Claim.{Claim}
 use Rattle.core.specs.Out.{Left}
-use Rattle.core.specs.Stages.{touchedOf, idleB}
+use Rattle.stages.specs.Stages.{touchedOf, idleB}
 use Rattle.advance.specs.Advance.{advanceOf}
 use Rattle.gate.specs.declared.Gate.{Gate}
 use Rattle.gate.specs.declared.Gate.the-variants.{Open, Shut}

@@ -4,7 +4,7 @@ ghost use mathlib.Core.Path.{_≡_};
 ghost use mathlib.Core.List.{[]};
 ghost use Rattle.machine.specs.State.{leaves, stageAt};
 ghost use Rattle.gate.specs.Gate.{beginTests, thenGate};
-ghost use Rattle.core.specs.Stages.{idleB};
+ghost use Rattle.stages.specs.Stages.{idleB};
 ghost use Rattle.machine.specs.Step.{gateOf};
 ghost use Rattle.machine.specs.Begin.{popping as poppingOf, firstStage, begun as begunOf, beginOf};
 use crate::state::Called;
@@ -21,7 +21,6 @@ use core::stage::PushStage;
 use core::stage::SourceStage;
 use core::stage::Stage;
 use core::stage::StealStage;
-use core::stages::is_idle;
 use gate::Gate;
 use gate::Operation;
 use gate::own_queue;
@@ -93,10 +92,9 @@ impl Machine {
     fn may_begin(self, length: usize, thread: usize, operation: Operation) -> Gate
         ensures { λ r. ⌜ r ≡ thenGate (gateOf self length thread) (beginTests (self .«queue_count») (idleB (stageAt self thread)) operation) ⌝ }
     {
-        then_gate(
-            self.gate(length, thread),
-            begin_tests(self.queue_count, is_idle(self.stage(thread)), operation),
-        )
+        let idle = self.idle(thread);
+        let tests = begin_tests(self.queue_count, idle, operation);
+        then_gate(self.gate(length, thread), tests)
     }
 
     fn begun(mut self, thread: usize, operation: Operation) -> Called

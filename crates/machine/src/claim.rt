@@ -1,54 +1,21 @@
-// Which places are in use, and what a claim finds.
+// What a claim finds.
 ghost use mathlib.Core.Path.{_≡_};
-ghost use Rattle.machine.specs.Claim.{usedBy, usedB, freePlace, freeRing, claimOf};
+ghost use Rattle.machine.specs.Claim.{freeRing, claimOf};
 use crate::state::Machine;
 use core::out::Claim;
 use core::stage::Stage;
-use core::stages::claims;
 use op_resize::found;
-use sound::kept::keeps_in;
+use places::used::free_place;
+use stages::claims;
 
 impl Machine {
-    // Queue i's ring is in this place, or thread i keeps one there.
-    fn used_by(self, place: usize, i: usize) -> bool
-        ensures { λ r. ⌜ r ≡ usedBy self place i ⌝ }
-    {
-        (self.place(i) == place) | keeps_in(self.kept(i), place)
-    }
-
-    fn used(self, place: usize) -> bool
-        ensures { λ r. ⌜ r ≡ usedB self place ⌝ }
-    {
-        let count = self.queue_count;
-        let mut i = 0;
-        while i < count {
-            if self.used_by(place, i) {
-                return true;
-            }
-            i += 1;
-        }
-        false
-    }
-
-    // The lowest-numbered free place, and the place count where none is free.
-    fn free_place(self) -> usize
-        ensures { λ r. ⌜ r ≡ freePlace self ⌝ }
-    {
-        let count = self.place_count;
-        let mut place = 0;
-        while place < count {
-            if !self.used(place) {
-                return place;
-            }
-            place += 1;
-        }
-        count
-    }
-
     fn free_ring(self) -> Claim
         ensures { λ r. ⌜ r ≡ freeRing self ⌝ }
     {
-        found(self.free_place(), self.place_count, self.next_ring)
+        let kept = self.rings_kept();
+        let queues = self.queues;
+        let place = free_place(queues, kept, self.queue_count, self.place_count);
+        found(place, self.place_count, self.next_ring)
     }
 
     // What the step at a stage claims.

@@ -1,14 +1,14 @@
 // A new machine.
 ghost use mathlib.Core.Path.{_≡_};
+ghost use mathlib.Core.List.{[]};
 ghost use lib.ListN.{getD};
 ghost use Rattle.core.specs.declared.queue.Flavor.the-variants.{Fifo};
-ghost use Rattle.machine.specs.State.{leaves, refusedOf};
-ghost use Rattle.machine.specs.Setup.{idleThreads, zeroMachine, freshQueue, freshQueues, freshMachine, setupOf};
+ghost use Rattle.machine.specs.State.{leaves, after};
+ghost use Rattle.machine.specs.Setup.{idleThreads, freshQueue, freshQueues, freshMachine, setupOf};
 use crate::state::Called;
 use crate::state::Machine;
 use crate::state::Thread;
 use core::answer::Answer;
-use core::answer::Refusal;
 use core::queue::Flavor;
 use core::queue::Queue;
 use core::queue::zero_queue;
@@ -62,7 +62,7 @@ fn idle_threads() -> [Thread; 4]
     ensures { λ r. ⌜ r ≡ idleThreads ⌝ }
 {
     let idle = Thread { stage: Stage::Idle };
-    [idle, idle, idle, idle]
+    [idle; 4]
 }
 
 fn fresh_machine(count: usize, flavors: [Flavor; 4], places: usize) -> Machine
@@ -79,28 +79,24 @@ fn fresh_machine(count: usize, flavors: [Flavor; 4], places: usize) -> Machine
     }
 }
 
-// The machine of zeros.
-fn turned_away(refusal: Refusal) -> Called
-    ensures { λ r. ⌜ r ≡ refusedOf zeroMachine refusal ⌝ }
+fn fresh(count: usize, flavors: [Flavor; 4], places: usize, answer: Answer) -> Called
+    ensures { λ r. ⌜ r ≡ after (freshMachine count flavors places) answer [] .called ⌝ }
 {
-    let flavors = [Flavor::Fifo; 4];
-    fresh_machine(0, flavors, 0).refused(refusal)
+    let machine = fresh_machine(count, flavors, places);
+    Called { machine, answer }
 }
 
 impl Machine {
-    // So many queues, of these flavours, and so many places in the lent pool. No cell is written.
+    // So many queues, of these flavours, and so many places in the lent pool. No cell is written. Refused, it is the machine of zeros.
     pub fn setup(queues: usize, flavors: [Flavor; 4], places: usize, pool: &[u64]) -> Called
         ensures { λ r. ⌜ leaves r (now (pool .entry)) ≡ setupOf queues flavors places (now (pool .entry)) ⌝ }
     {
         match setup_tests(queues, places, pool.len()) {
             Gate::Open => {
-                return Called {
-                    machine: fresh_machine(queues, flavors, places),
-                    answer: Answer::Done,
-                };
+                return fresh(queues, flavors, places, Answer::Done);
             }
             Gate::Shut(refusal) => {
-                return turned_away(refusal);
+                return fresh(0, flavors, 0, Answer::Refused(refusal));
             }
         }
     }

@@ -1,32 +1,32 @@
 // Whether a machine is sound.
 ghost use mathlib.Core.Path.{_≡_};
-ghost use Rattle.base.specs.Below.{allBelow};
-ghost use Rattle.sound.specs.Sound.{stageSound};
+ghost use mathlib.Core.Bool.{_&&_};
+ghost use Rattle.sound.specs.Sound.{queueIn, queuesSoundOf, stageSound};
+ghost use Rattle.places.specs.Places.{keptIn, allApartOf};
 ghost use Rattle.machine.specs.State.{stageAt};
-ghost use Rattle.machine.specs.Sound.{apartB, queuesSound, stagesSound, allApart, soundB};
+ghost use Rattle.machine.specs.Sound.{stagesSound, soundB};
 use crate::state::Machine;
+use core::queue::Queue;
+use keeps::Kept;
+use places::apart::all_apart;
 use sound::counts_in_range;
-use sound::kept::both_build;
-use sound::kept::builds_in;
-use sound::queue_sound;
+use sound::queues_sound;
 use sound::stage::stage_sound;
 
-impl Machine {
-    fn queues_sound(self) -> bool
-        ensures { λ r. ⌜ r ≡ queuesSound self ⌝ }
-    {
-        let count = self.queue_count;
-        let places = self.place_count;
-        let mut i = 0;
-        while i < count {
-            if !queue_sound(places, self.queue(i)) {
-                return false;
-            }
-            i += 1;
-        }
-        true
-    }
+// The queues, the stages as they were found to be, and the places.
+fn parts_sound(
+    count: usize,
+    places: usize,
+    queues: [Queue; 4],
+    stages: bool,
+    kept: [Kept; 4],
+) -> bool
+    ensures { λ r. ⌜ r ≡ (queuesSoundOf count places (queueIn queues) && (stages && allApartOf (queueIn queues) (keptIn kept) count)) ⌝ }
+{
+    queues_sound(count, places, queues) & (stages & all_apart(queues, kept, count))
+}
 
+impl Machine {
     fn is_stage_sound(self, t: usize) -> bool
         ensures { λ r. ⌜ r ≡ stageSound (self .«queue_count») (self .«place_count») (stageAt self t) ⌝ }
     {
@@ -47,51 +47,15 @@ impl Machine {
         true
     }
 
-    // Queue i's ring and what thread j builds are in different places; and so are, of two, the queues' rings and what the threads build.
-    fn apart(self, i: usize, j: usize) -> bool
-        ensures { λ r. ⌜ r ≡ apartB self i j ⌝ }
-    {
-        let first = self.place(i);
-        let second = self.place(j);
-        let kept = self.kept(i);
-        let other = self.kept(j);
-        !builds_in(other, first) & ((i == j) | ((first != second) & !both_build(kept, other)))
-    }
-
-    fn apart_from(self, i: usize) -> bool
-        ensures { λ r. ⌜ r ≡ allBelow (self .«queue_count») (apartB self i) ⌝ }
-    {
-        let count = self.queue_count;
-        let mut j = 0;
-        while j < count {
-            if !self.apart(i, j) {
-                return false;
-            }
-            j += 1;
-        }
-        true
-    }
-
-    fn all_apart(self) -> bool
-        ensures { λ r. ⌜ r ≡ allApart self ⌝ }
-    {
-        let count = self.queue_count;
-        let mut i = 0;
-        while i < count {
-            if !self.apart_from(i) {
-                return false;
-            }
-            i += 1;
-        }
-        true
-    }
-
     pub fn is_sound(self) -> bool
         ensures { λ r. ⌜ r ≡ soundB self ⌝ }
     {
         if !counts_in_range(self.queue_count, self.place_count) {
             return false;
         }
-        self.queues_sound() & (self.stages_sound() & self.all_apart())
+        let stages = self.stages_sound();
+        let kept = self.rings_kept();
+        let queues = self.queues;
+        parts_sound(self.queue_count, self.place_count, queues, stages, kept)
     }
 }

@@ -1,16 +1,16 @@
 // The machine, its parts, and the machine with one part changed.
 ghost use mathlib.Core.Path.{_≡_};
 ghost use lib.ListN.{set};
-ghost use Rattle.core.specs.Kept.{keptOf};
-ghost use Rattle.machine.specs.State.{queueAt, stageAt, withQueue, withStage, numberAfter, counted as countedOf, refusedOf};
+ghost use Rattle.places.specs.Places.{keptIn};
+ghost use Rattle.machine.specs.State.{queueAt, stageAt, keptAt, withStage, numberAfter, refusedOf};
 use core::answer::Answer;
 use core::answer::Refusal;
-use core::kept::Kept;
-use core::kept::ring_kept;
 use core::out::Claim;
 use core::queue::Queue;
 use core::queue::queue_of;
 use core::stage::Stage;
+use keeps::Kept;
+use keeps::ring_kept;
 use ring::RingNumber;
 
 pub struct Thread {
@@ -32,7 +32,13 @@ pub struct Called {
     pub answer: Answer,
 }
 
-fn queues_with(mut queues: [Queue; 4], k: usize, q: Queue) -> [Queue; 4]
+fn stage_of(thread: Thread) -> Stage
+    ensures { λ r. ⌜ r ≡ thread .stage ⌝ }
+{
+    thread.stage
+}
+
+pub(crate) fn queues_with(mut queues: [Queue; 4], k: usize, q: Queue) -> [Queue; 4]
     ensures { λ r. ⌜ r ≡ set queues k q ⌝ }
 {
     if k < 4 {
@@ -42,7 +48,7 @@ fn queues_with(mut queues: [Queue; 4], k: usize, q: Queue) -> [Queue; 4]
 }
 
 // A ring number that was given is never given again.
-fn number_after(next: RingNumber, claim: Claim) -> RingNumber
+pub(crate) fn number_after(next: RingNumber, claim: Claim) -> RingNumber
     ensures { λ r. ⌜ r ≡ numberAfter next claim ⌝ }
 {
     match claim {
@@ -65,34 +71,27 @@ impl Machine {
         ensures { λ r. ⌜ r ≡ stageAt self t ⌝ }
     {
         if t < 4 {
-            let thread = self.threads[t];
-            return thread.stage;
+            return stage_of(self.threads[t]);
         }
         Stage::Idle
     }
 
     // The ring that thread t keeps.
-    pub(crate) fn kept(self, t: usize) -> Kept
-        ensures { λ r. ⌜ r ≡ keptOf (stageAt self t) ⌝ }
+    fn kept(self, t: usize) -> Kept
+        ensures { λ r. ⌜ r ≡ keptAt self t ⌝ }
     {
         ring_kept(self.stage(t))
     }
 
-    // The place of queue k's ring.
-    pub(crate) fn place(self, k: usize) -> usize
-        ensures { λ r. ⌜ r ≡ queueAt self k .ring .place .0 ⌝ }
+    // The rings that the threads keep.
+    pub(crate) fn rings_kept(self) -> [Kept; 4]
+        ensures { λ r. ⌜ keptIn r ≡ keptAt self ⌝ }
     {
-        let q = self.queue(k);
-        q.ring.place.0
-    }
-
-    pub(crate) fn with_queue(mut self, k: usize, q: Queue) -> Machine
-        ensures { λ r. ⌜ r ≡ withQueue self k q ⌝ }
-    {
-        let queues = self.queues;
-        let changed = queues_with(queues, k, q);
-        self.queues = changed;
-        self
+        let k0 = self.kept(0);
+        let k1 = self.kept(1);
+        let k2 = self.kept(2);
+        let k3 = self.kept(3);
+        [k0, k1, k2, k3]
     }
 
     pub(crate) fn with_stage(mut self, t: usize, stage: Stage) -> Machine
@@ -102,14 +101,6 @@ impl Machine {
             let thread = Thread { stage };
             self.threads[t] = thread;
         }
-        self
-    }
-
-    pub(crate) fn counted(mut self, claim: Claim) -> Machine
-        ensures { λ r. ⌜ r ≡ countedOf self claim ⌝ }
-    {
-        let next = number_after(self.next_ring, claim);
-        self.next_ring = next;
         self
     }
 

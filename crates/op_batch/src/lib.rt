@@ -229,8 +229,12 @@ pub fn turning(own: Flavor, haul: Haul, further: Further, q: Queue) -> BatchOut
     ensures { λ r. ⌜ r ≡ turningOf own haul further q ⌝ }
 {
     match further {
-        Further::Next(i) => take_at(q, haul, TakeStage::One(OneStage::ReloadBack { i })),
-        Further::Over => stopped(own, haul, haul.n, q),
+        Further::Next(i) => {
+            return take_at(q, haul, TakeStage::One(OneStage::ReloadBack { i }));
+        }
+        Further::Over => {
+            return stopped(own, haul, haul.n, q);
+        }
     }
 }
 

@@ -1,3 +1,1 @@
-pub mod Reserve
-pub mod Swap
 pub mod Own

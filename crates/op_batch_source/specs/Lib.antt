@@ -1,3 +1,1 @@
-pub mod All
-pub mod One
 pub mod Source

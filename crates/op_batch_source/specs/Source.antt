@@ -22,8 +22,8 @@ use Rattle.core.specs.declared.answer.Answer.the-variants.{Stolen}
 use Rattle.op_batch.specs.declared.BatchOut.{BatchOut}
 use Rattle.op_batch.specs.declared.BatchOut.the-variants.{Source, Own, Ended}
 use Rattle.op_batch.specs.Haul.{takeAt, wantedOf, reserving, hauling, withJob, turnOf, copying, stopped}
-use Rattle.op_batch_source.specs.All.{allStepOf}
-use Rattle.op_batch_source.specs.One.{oneStepOf}
+use Rattle.op_batch_all.specs.All.{allStepOf}
+use Rattle.op_batch_one.specs.One.{oneStepOf}
 
 -- the ring is held: a batch and pop reads its first job; a batch takes by the source's flavour
 abbrev pub taking : Flavor → Flavor → Haul → Queue → BatchOut

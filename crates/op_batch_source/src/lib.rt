@@ -2,8 +2,6 @@
 ghost use mathlib.Core.Path.{_≡_};
 ghost use Rattle.op_batch.specs.Haul.{hauling as haulingOf};
 ghost use Rattle.op_batch_source.specs.Source.{taking as takingOf, held as heldOf, firstRead, takeOf, sourceOf};
-use crate::all::all_step;
-use crate::one::one_step;
 use cells::read;
 use core::answer::Answer;
 use core::queue::Flavor;
@@ -24,11 +22,10 @@ use op_batch::take_at;
 use op_batch::turn;
 use op_batch::wanted;
 use op_batch::with_job;
+use op_batch_all::all_step;
+use op_batch_one::one_step;
 use ring::Ring;
 use steal::Steal;
-
-pub mod all;
-pub mod one;
 
 // From here on the ring is held.
 fn hauling(ring: Ring, wanted: Wanted, b: Index) -> Haul
@@ -49,12 +46,14 @@ fn taking(flavor: Flavor, own: Flavor, haul: Haul, q: Queue) -> BatchOut
     ensures { λ r. ⌜ r ≡ takingOf flavor own haul q ⌝ }
 {
     match flavor {
-        Flavor::Fifo => take_at(q, haul, copying(turn(haul.n, 0))),
+        Flavor::Fifo => {
+            return take_at(q, haul, copying(turn(haul.n, 0)));
+        }
         Flavor::Lifo => {
             if haul.n <= 0 {
                 return stopped(own, haul, 0, q);
             }
-            take_at(q, haul, TakeStage::One(OneStage::Read { i: 0 }))
+            return take_at(q, haul, TakeStage::One(OneStage::Read { i: 0 }));
         }
     }
 }
@@ -65,9 +64,11 @@ fn held(kind: BatchKind, own: Flavor, haul: Haul, q: Queue) -> BatchOut
     match kind {
         BatchKind::Batch => {
             let flavor = q.flavor;
-            taking(flavor, own, haul, q)
+            return taking(flavor, own, haul, q);
         }
-        BatchKind::BatchAndPop => take_at(q, haul, TakeStage::ReadFirst),
+        BatchKind::BatchAndPop => {
+            return take_at(q, haul, TakeStage::ReadFirst);
+        }
     }
 }
 
@@ -76,8 +77,12 @@ fn first_read(flavor: Flavor, haul: Haul, job: u64, q: Queue) -> BatchOut
     ensures { λ r. ⌜ r ≡ firstRead flavor haul job q ⌝ }
 {
     match flavor {
-        Flavor::Fifo => take_at(q, with_job(haul, job), copying(turn(haul.n, 0))),
-        Flavor::Lifo => take_at(q, haul, TakeStage::One(OneStage::ExchangeFirst { job })),
+        Flavor::Fifo => {
+            return take_at(q, with_job(haul, job), copying(turn(haul.n, 0)));
+        }
+        Flavor::Lifo => {
+            return take_at(q, haul, TakeStage::One(OneStage::ExchangeFirst { job }));
+        }
     }
 }
 
@@ -89,10 +94,14 @@ pub fn take_step(own: Flavor, haul: Haul, at: TakeStage, q: Queue, pool: &[u64])
         TakeStage::ReadFirst => {
             let job = read(pool, haul.ring, haul.f);
             let flavor = q.flavor;
-            first_read(flavor, haul, job, q)
+            return first_read(flavor, haul, job, q);
         }
-        TakeStage::All(stage) => all_step(haul, stage, q, pool),
-        TakeStage::One(stage) => one_step(own, haul, stage, q, pool),
+        TakeStage::All(stage) => {
+            return all_step(haul, stage, q, pool);
+        }
+        TakeStage::One(stage) => {
+            return one_step(own, haul, stage, q, pool);
+        }
     }
 }
 
@@ -103,19 +112,21 @@ pub fn source_step(own: Flavor, at: SourceStage, q: Queue, pool: &[u64]) -> Batc
     match at {
         SourceStage::LoadFront { kind, others } => {
             let f = q.front;
-            BatchOut::Source(q, SourceStage::LoadBack { kind, others, f })
+            return BatchOut::Source(q, SourceStage::LoadBack { kind, others, f });
         }
         SourceStage::LoadBack { kind, others, f } => {
             if q.back.is_empty(f) {
                 return BatchOut::Ended(q, Answer::Stolen(Steal::Empty));
             }
             let n = wanted(kind, q.back.length(f), others);
-            BatchOut::Own(q, reserving(Wanted { kind, f, n }))
+            return BatchOut::Own(q, reserving(Wanted { kind, f, n }));
         }
         SourceStage::LoadRing { wanted, b } => {
             let kind = wanted.kind;
-            held(kind, own, hauling(q.ring, wanted, b), q)
+            return held(kind, own, hauling(q.ring, wanted, b), q);
         }
-        SourceStage::Take(haul, stage) => take_step(own, haul, stage, q, pool),
+        SourceStage::Take(haul, stage) => {
+            return take_step(own, haul, stage, q, pool);
+        }
     }
 }

@@ -1,4 +1,1 @@
-pub mod Shrink
-pub mod FifoPop
-pub mod LifoPop
 pub mod Pop

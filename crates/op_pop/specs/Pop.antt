@@ -6,10 +6,10 @@ use Rattle.core.specs.declared.stage.PopStage.{PopStage}
 use Rattle.core.specs.declared.stage.PopStage.the-variants.{Fifo, Lifo, Shrink}
 use Rattle.core.specs.declared.stage.Popper.{Popper}
 use Rattle.core.specs.declared.out.Claim.{Claim}
-use Rattle.op_pop.specs.declared.PopOut.{PopOut}
-use Rattle.op_pop.specs.Shrink.{shrinkOf}
-use Rattle.op_pop.specs.FifoPop.{fifoPopOf}
-use Rattle.op_pop.specs.LifoPop.{lifoPopOf}
+use Rattle.op_shrink.specs.declared.PopOut.{PopOut}
+use Rattle.op_shrink.specs.Shrink.{shrinkOf}
+use Rattle.op_pop_fifo.specs.FifoPop.{fifoPopOf}
+use Rattle.op_pop_lifo.specs.LifoPop.{lifoPopOf}
 
 abbrev pub popOf : Popper → PopStage → Queue → Claim → List ℕ → PopOut × List ℕ
 popOf w (Fifo at) q g cells = (fifoPopOf w at q cells, cells)

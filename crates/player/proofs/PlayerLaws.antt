@@ -4,11 +4,11 @@ use mathlib.Core.List.{List}
 use Prim.Native.Nat.{ℕ, _≤_, _<_}
 use native.Mathlib.Omega.{arith}
 use lib.ListN.{length}
-use Rattle.text.specs.declared.reading.Reader.{Reader}
-use Rattle.text.specs.declared.reading.Word.{Word}
-use Rattle.text.specs.declared.reading.Word.the-variants.{Nothing, Number, Wrong}
-use Rattle.text.specs.Reading.{readOf}
-use Rattle.text.proofs.ReadingLaws.{used-within, used-some}
+use Rattle.reading.specs.declared.Reader.{Reader}
+use Rattle.reading.specs.declared.Word.{Word}
+use Rattle.reading.specs.declared.Word.the-variants.{Nothing, Number, Wrong}
+use Rattle.reading.specs.Reading.{readOf}
+use Rattle.reading.proofs.ReadingLaws.{used-within, used-some}
 use Rattle.player.specs.declared.Player.{Player}
 use Rattle.player.specs.Player.{heard, listenOf}
 

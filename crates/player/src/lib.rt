@@ -1,22 +1,18 @@
-// A session played from its text: what the next number says, and what the program does then.
+// A session heard from its text: what the next number says, and what is printed then.
 ghost use mathlib.Core.Path.{_≡_};
-ghost use Rattle.text.specs.Writing.{page as pageOf};
-ghost use Rattle.machine.specs.Setup.{setupOf};
-ghost use Rattle.machine.specs.Call.{callOf};
-ghost use Rattle.session.specs.Grammar.{flavorsOf};
-ghost use Rattle.player.specs.Player.{newPlayer, heard as heardOf, listenOf, finishOf, cellsOf, scene, doneB, setUp, calledOf, tellOf, closeOf};
+ghost use Rattle.writing.specs.Writing.{page as pageOf};
+ghost use Rattle.player.specs.Player.{newPlayer, heard as heardOf, listenOf, finishOf, cellsOf, doneB, showOf, endsB, closeOf};
 use cells::PLACE_CELLS;
 use core::answer::Answer;
-use gate::Request;
+use core::queue::Queue;
 use line::put_bad;
 use line::put_call;
 use line::put_setup;
-use machine::state::Machine;
+use reading::Reader;
+use reading::Word;
 use session::grammar::Said;
 use session::grammar::Session;
 use sound::MOST_PLACES;
-use text::reading::Reader;
-use text::reading::Word;
 
 pub struct Player {
     pub reader: Reader,
@@ -28,13 +24,6 @@ pub struct Turn {
     pub player: Player,
     pub said: Said,
     pub used: usize,
-}
-
-// at: where the page's text ends now.
-pub struct Shown {
-    pub machine: Machine,
-    pub at: usize,
-    pub is_over: bool,
 }
 
 impl Player {
@@ -52,29 +41,33 @@ impl Player {
     {
         let session = self.session;
         match word {
-            Word::Nothing => Turn {
-                player: Player { reader, session },
-                said: Said::Nothing,
-                used,
-            },
+            Word::Nothing => {
+                return Turn {
+                    player: Player { reader, session },
+                    said: Said::Nothing,
+                    used,
+                };
+            }
             Word::Number(number) => {
                 let told = session.hear(number);
                 let next = told.session;
                 let said = told.said;
-                Turn {
+                return Turn {
                     player: Player {
                         reader,
                         session: next,
                     },
                     said,
                     used,
-                }
+                };
             }
-            Word::Wrong => Turn {
-                player: Player { reader, session },
-                said: Said::Wrong,
-                used,
-            },
+            Word::Wrong => {
+                return Turn {
+                    player: Player { reader, session },
+                    said: Said::Wrong,
+                    used,
+                };
+            }
         }
     }
 
@@ -130,80 +123,48 @@ fn is_done(answer: Answer) -> bool
     }
 }
 
-// A setup that is not done prints its line, and the program ends.
-fn set_up(session: Session, queues: usize, pool: &[u64], page: &mut [u8], at: usize) -> Shown
-    ensures { λ r. ⌜ scene r (now (pool .entry)) (now (page .exit)) ≡ setUp (setupOf queues (flavorsOf session) (session .places) (now (pool .entry))) (now (page .entry)) at ⌝ }
-{
-    let called = Machine::setup(queues, session.all_flavors(), session.places as usize, pool);
-    let machine = called.machine;
-    let answer = called.answer;
-    if is_done(answer) {
-        return Shown {
-            machine,
-            at,
-            is_over: false,
-        };
-    }
-    let end = put_setup(page, at, answer);
-    Shown {
-        machine,
-        at: end,
-        is_over: true,
-    }
-}
-
-// A call prints its line.
-fn call(
-    machine: Machine,
-    pool: &mut [u64],
-    thread: usize,
-    request: Request,
-    page: &mut [u8],
-    at: usize,
-) -> Shown
-    ensures { λ r. ⌜ scene r (now (pool .exit)) (now (page .exit)) ≡ calledOf (callOf machine (now (pool .entry)) thread request) (now (page .entry)) at ⌝ }
-{
-    let called = machine.call(pool, thread, request);
-    let next = called.machine;
-    let answer = called.answer;
-    let queues = next.queues;
-    let end = put_call(page, at, next.queue_count, queues, answer);
-    Shown {
-        machine: next,
-        at: end,
-        is_over: false,
-    }
-}
-
-// What the program does at what was said. What is no session prints its line, and the program ends.
-pub fn tell(
-    player: Player,
-    said: Said,
-    machine: Machine,
-    pool: &mut [u64],
-    page: &mut [u8],
-    at: usize,
-) -> Shown
-    ensures { λ r. ⌜ scene r (now (pool .exit)) (now (page .exit)) ≡ tellOf player said machine (now (pool .entry)) (now (page .entry)) at ⌝ }
-{
-    match said {
-        Said::Nothing => Shown {
-            machine,
-            at,
-            is_over: false,
-        },
-        Said::Setup { queues } => {
-            let session = player.session;
-            set_up(session, queues, pool, page, at)
-        }
-        Said::Call { thread, request } => call(machine, pool, thread, request, page, at),
-        Said::Wrong => {
-            let end = put_bad(page, at, player.reader.start);
-            Shown {
-                machine,
-                at: end,
-                is_over: true,
+impl Turn {
+    // What is printed: a line for each call, for a setup that is not done, and for what is no session.
+    pub fn show(
+        self,
+        answer: Answer,
+        count: usize,
+        queues: [Queue; 4],
+        page: &mut [u8],
+        at: usize,
+    ) -> usize
+        ensures { λ r. ⌜ pageOf (now (page .exit)) r ≡ showOf self answer count queues (now (page .entry)) at ⌝ }
+    {
+        let said = self.said;
+        match said {
+            Said::Nothing => at,
+            Said::Setup { queues: _ } => {
+                if is_done(answer) {
+                    return at;
+                }
+                put_setup(page, at, answer)
             }
+            Said::Call {
+                thread: _,
+                request: _,
+            } => put_call(page, at, count, queues, answer),
+            Said::Wrong => put_bad(page, at, self.player.reader.start),
+        }
+    }
+
+    // The program ends at a setup that is not done, and at what is no session.
+    pub fn ends(self, answer: Answer) -> bool
+        ensures { λ r. ⌜ r ≡ endsB (self .said) answer ⌝ }
+    {
+        let said = self.said;
+        match said {
+            Said::Nothing => false,
+            Said::Setup { queues: _ } => !is_done(answer),
+            Said::Call {
+                thread: _,
+                request: _,
+            } => false,
+            Said::Wrong => true,
         }
     }
 }

@@ -7,7 +7,7 @@ use Rattle.core.specs.declared.out.Out.{Out}
 use Rattle.core.specs.Out.{Left, left}
 use Rattle.machine.specs.declared.state.Called.{Called}
 use Rattle.machine.specs.State.{After, leaves}
-use Rattle.text.specs.Writing.{Page, page}
+use Rattle.writing.specs.Writing.{Page, page}
 
 pub record Form (A C B : Type 0) : Type 0 where
   pub form : A → C → B

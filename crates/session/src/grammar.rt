@@ -1,23 +1,17 @@
 // What the numbers of a session say: the place count, the queue count, a flavour for each queue; then calls of four numbers.
 ghost use mathlib.Core.Path.{_≡_};
-ghost use Rattle.session.specs.Grammar.{kindOf, sourceB, operandB, requestOf, flavorOf, flavorsOf, newSession, wholeB, to as toOf, wrong as wrongOf, withPlaces, withFlavor, flavorsRead, kindHeard, unusedB, flavorHeard, sourceHeard, operandHeard, hearOf};
+ghost use Rattle.kinds.specs.Kinds.{kindOf};
+ghost use Rattle.session.specs.Grammar.{flavorsOf, newSession, wholeB, to as toOf, wrong as wrongOf, withPlaces, withFlavor, flavorsRead, kindHeard, unusedB, flavorHeard, sourceHeard, operandHeard, hearOf};
 use core::queue::Flavor;
-use gate::Operation;
+use core::queue::flavor_of;
 use gate::Request;
-use gate::own_queue;
+use kinds::Kind;
+use kinds::KindRead;
+use kinds::has_operand;
+use kinds::has_source;
+use kinds::kind_of;
+use kinds::request_of;
 use sound::MOST_QUEUES;
-
-// The kinds of calls, 0 to 7.
-pub enum Kind {
-    Step,
-    Push,
-    Pop,
-    OwnLength,
-    Length,
-    Steal,
-    Batch,
-    BatchAndPop,
-}
 
 // Which number comes next, and those that came before it.
 pub enum Awaiting {
@@ -62,108 +56,11 @@ pub struct Told {
     pub said: Said,
 }
 
-pub enum KindRead {
-    Kind(Kind),
-    Wrong,
-}
-
-pub fn kind_of(number: u64) -> KindRead
-    ensures { λ r. ⌜ r ≡ kindOf number ⌝ }
-{
-    if number == 0 {
-        return KindRead::Kind(Kind::Step);
-    }
-    if number == 1 {
-        return KindRead::Kind(Kind::Push);
-    }
-    if number == 2 {
-        return KindRead::Kind(Kind::Pop);
-    }
-    if number == 3 {
-        return KindRead::Kind(Kind::OwnLength);
-    }
-    if number == 4 {
-        return KindRead::Kind(Kind::Length);
-    }
-    if number == 5 {
-        return KindRead::Kind(Kind::Steal);
-    }
-    if number == 6 {
-        return KindRead::Kind(Kind::Batch);
-    }
-    if number == 7 {
-        return KindRead::Kind(Kind::BatchAndPop);
-    }
-    KindRead::Wrong
-}
-
-// The kind names a source queue.
-fn has_source(kind: Kind) -> bool
-    ensures { λ r. ⌜ r ≡ sourceB kind ⌝ }
-{
-    match kind {
-        Kind::Step => false,
-        Kind::Push => false,
-        Kind::Pop => false,
-        Kind::OwnLength => false,
-        Kind::Length => true,
-        Kind::Steal => true,
-        Kind::Batch => true,
-        Kind::BatchAndPop => true,
-    }
-}
-
-// The kind has an operand: a job or a limit.
-fn has_operand(kind: Kind) -> bool
-    ensures { λ r. ⌜ r ≡ operandB kind ⌝ }
-{
-    match kind {
-        Kind::Step => false,
-        Kind::Push => true,
-        Kind::Pop => false,
-        Kind::OwnLength => false,
-        Kind::Length => false,
-        Kind::Steal => false,
-        Kind::Batch => true,
-        Kind::BatchAndPop => true,
-    }
-}
-
 // An unused number that is not 0.
 fn is_unused(number: u64, used: bool) -> bool
     ensures { λ r. ⌜ r ≡ unusedB number used ⌝ }
 {
     (number != 0) & !used
-}
-
-pub fn request_of(thread: usize, kind: Kind, source: usize, operand: u64) -> Request
-    ensures { λ r. ⌜ r ≡ requestOf thread kind source operand ⌝ }
-{
-    match kind {
-        Kind::Step => Request::Step,
-        Kind::Push => Request::Begin(Operation::Push(operand)),
-        Kind::Pop => Request::Begin(Operation::Pop),
-        Kind::OwnLength => Request::Begin(Operation::Length(own_queue(thread))),
-        Kind::Length => Request::Begin(Operation::Length(source)),
-        Kind::Steal => Request::Begin(Operation::Steal(source)),
-        Kind::Batch => Request::Begin(Operation::Batch {
-            source,
-            limit: operand,
-        }),
-        Kind::BatchAndPop => Request::Begin(Operation::BatchAndPop {
-            source,
-            limit: operand,
-        }),
-    }
-}
-
-fn flavor_of(number: u64) -> Flavor
-    ensures { λ r. ⌜ r ≡ flavorOf number ⌝ }
-{
-    if number == 0 {
-        return Flavor::Fifo;
-    }
-    Flavor::Lifo
 }
 
 impl Session {

@@ -3,19 +3,16 @@ use Prim.Native.Nat.{ℕ, _/_, _%_}
 use mathlib.Core.Bool.{Bool, _&&_}
 use mathlib.Core.List.{List, [], _∷_}
 use lib.Dec.{eqb}
-use Rattle.base.specs.Tests.{pick}
 use Rattle.core.specs.declared.queue.Flavor.{Flavor}
 use Rattle.core.specs.declared.queue.Flavor.the-variants.{Fifo, Lifo}
 use Rattle.core.specs.declared.queue.Queue.{Queue}
+use Rattle.core.specs.Queues.{flavorOf}
 use Rattle.slots.specs.declared.queue.QueueWords.{QueueWords}
 use Rattle.slots.specs.Slots.{indexWord, indexOf}
 
 abbrev pub flavorWord : Flavor → ℕ
 flavorWord Fifo = 0
 flavorWord Lifo = 1
-
-abbrev pub flavorOf : ℕ → Flavor
-flavorOf u = pick (eqb u 0) Fifo Lifo
 
 -- queue q is LIFO where bit q is set
 abbrev pub flavorsOf : ℕ → List Flavor

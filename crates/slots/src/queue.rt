@@ -1,10 +1,12 @@
 // A queue as words.
 ghost use mathlib.Core.Path.{_≡_};
-ghost use Rattle.slots.specs.Queue.{flavorWord, flavorOf, flavorsOf, queueWords, queueOf, sameQueueB};
+ghost use Rattle.core.specs.Queues.{flavorOf};
+ghost use Rattle.slots.specs.Queue.{flavorWord, flavorsOf, queueWords, queueOf, sameQueueB};
 use crate::index_of;
 use crate::index_word;
 use core::queue::Flavor;
 use core::queue::Queue;
+use core::queue::flavor_of;
 use ring::PlaceNumber;
 use ring::Ring;
 use ring::RingNumber;
@@ -28,15 +30,6 @@ fn flavor_word(flavor: Flavor) -> u64
         Flavor::Fifo => 0,
         Flavor::Lifo => 1,
     }
-}
-
-pub fn flavor_of(u: u64) -> Flavor
-    ensures { λ r. ⌜ r ≡ flavorOf u ⌝ }
-{
-    if u == 0 {
-        return Flavor::Fifo;
-    }
-    Flavor::Lifo
 }
 
 // Queue q is LIFO where bit q is set.

@@ -1,14 +1,18 @@
--- What soundness asks of the counts, of a queue, of a stage, and of two rings. In the words of 01: counts in range; capacities allowed; place
+-- What soundness asks of the counts, of queues and of a stage. In the words of 01: counts in range; capacities allowed; place
 -- numbers below the count; each difference from -1 to capacity; each ring a thread remembers has an allowed capacity and a place below the
 -- count; a capacity it resizes to is allowed; the source queue it remembers exists; once reserve is past, a batch's n is at most the largest
 -- capacity and its counters at most n.
 use Prim.Native.Nat.{ℕ}
-use mathlib.Core.Bool.{Bool, true, false, _&&_}
-use lib.Dec.{leb, ltb, eqb}
+use mathlib.Core.Bool.{Bool, true, _&&_}
+use mathlib.Core.List.{List}
+use lib.Dec.{leb, ltb}
+use lib.ListN.{getD}
+use Rattle.base.specs.Below.{allBelow}
 use Rattle.index.specs.Index.{spansB}
 use Rattle.ring.specs.declared.Ring.{Ring}
 use Rattle.ring.specs.Capacity.{largest, allowedB}
 use Rattle.core.specs.declared.queue.Queue.{Queue}
+use Rattle.core.specs.Queues.{zeroQueue}
 use Rattle.core.specs.declared.stage.ResizeStage.{ResizeStage}
 use Rattle.core.specs.declared.stage.ResizeStage.the-variants as Z
 use Rattle.core.specs.declared.stage.PushStage.{PushStage}
@@ -33,9 +37,9 @@ use Rattle.core.specs.declared.stage.OwnStage.{OwnStage}
 use Rattle.core.specs.declared.stage.OwnStage.the-variants as O
 use Rattle.core.specs.declared.stage.Stage.{Stage}
 use Rattle.core.specs.declared.stage.Stage.the-variants.{Idle, Push, Pop, Steal, Length, OwnBatch, BatchSource, BatchOwn}
-use Rattle.core.specs.declared.kept.Kept.{Kept}
-use Rattle.core.specs.declared.kept.Kept.the-variants.{Nothing, Built, Held}
-use Rattle.core.specs.Kept.{keptOf}
+use Rattle.keeps.specs.declared.Kept.{Kept}
+use Rattle.keeps.specs.declared.Kept.the-variants.{Nothing, Built, Held}
+use Rattle.keeps.specs.Kept.{keptOf}
 
 -- ---- counts in range
 
@@ -57,6 +61,14 @@ ringSound n r = allowedB (r .capacity) && ltb (r .place .0) n
 
 abbrev pub queueSound : ℕ → Queue → Bool
 queueSound n q = ringSound n (q .ring) && spansB (q .back) (q .front) (q .ring .capacity)
+
+-- queue k of these
+abbrev pub queueIn : List Queue → ℕ → Queue
+queueIn l k = getD l k zeroQueue
+
+-- the first k queues, of those that a function gives
+abbrev pub queuesSoundOf : ℕ → ℕ → (ℕ → Queue) → Bool
+queuesSoundOf k n queue = allBelow k (λ i. queueSound n (queue i))
 
 -- ---- what a thread remembers; k is the queue count
 
@@ -153,21 +165,3 @@ numbersSound (BatchOwn src at) = ownSound at
 
 abbrev pub stageSound : ℕ → ℕ → Stage → Bool
 stageSound k n s = namedSound k s && (keptSound n (keptOf s) && numbersSound s)
-
--- ---- rings in places
-
-abbrev pub buildsIn : Kept → ℕ → Bool
-buildsIn Nothing p = false
-buildsIn (Built r) p = eqb (r .place .0) p
-buildsIn (Held r) p = false
-
-abbrev pub bothBuild : Kept → Kept → Bool
-bothBuild Nothing b = false
-bothBuild (Built r) b = buildsIn b (r .place .0)
-bothBuild (Held r) b = false
-
--- a ring that is kept, built or held, is in place p
-abbrev pub keepsIn : Kept → ℕ → Bool
-keepsIn Nothing p = false
-keepsIn (Built r) p = eqb (r .place .0) p
-keepsIn (Held r) p = eqb (r .place .0) p

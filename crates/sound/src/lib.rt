@@ -1,7 +1,8 @@
-// What soundness asks of the counts, of a queue, of a stage, and of two rings.
+// What soundness asks of the counts, of queues and of a stage.
 ghost use mathlib.Core.Path.{_≡_};
-ghost use Rattle.sound.specs.Sound.{countsB, ringSound, queueSound};
+ghost use Rattle.sound.specs.Sound.{countsB, ringSound, queueSound, queueIn, queuesSoundOf};
 use core::queue::Queue;
+use core::queue::queue_of;
 use ring::Ring;
 
 pub mod kept;
@@ -28,4 +29,17 @@ pub fn queue_sound(places: usize, q: Queue) -> bool
     ensures { λ r. ⌜ r ≡ queueSound places q ⌝ }
 {
     ring_sound(places, q.ring) & q.back.spans(q.front, q.ring.capacity)
+}
+
+pub fn queues_sound(count: usize, places: usize, queues: [Queue; 4]) -> bool
+    ensures { λ r. ⌜ r ≡ queuesSoundOf count places (queueIn queues) ⌝ }
+{
+    let mut i = 0;
+    while i < count {
+        if !queue_sound(places, queue_of(queues, i)) {
+            return false;
+        }
+        i += 1;
+    }
+    true
 }

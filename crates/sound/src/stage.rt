@@ -2,7 +2,6 @@
 ghost use mathlib.Core.Path.{_≡_};
 ghost use Rattle.sound.specs.Sound.{namedSound, resizeSound, pushSound, popSound, wantedSound, haulSound, allSound, oneSound, takeSound, sourceSound, reserveSound, putSound, ownSound, numbersSound, stageSound};
 use crate::kept::kept_sound;
-use core::kept::ring_kept;
 use core::stage::AllStage;
 use core::stage::Haul;
 use core::stage::OneStage;
@@ -16,6 +15,7 @@ use core::stage::SourceStage;
 use core::stage::Stage;
 use core::stage::TakeStage;
 use core::stage::Wanted;
+use keeps::ring_kept;
 use ring::Ring;
 
 // The source queue exists.

@@ -16,8 +16,8 @@ use Rattle.core.specs.declared.stage.LengthStage.{LengthStage as CodeLength}
 use Rattle.core.specs.declared.stage.LengthStage.the-variants as N
 use Rattle.core.specs.declared.stage.Stage.{Stage as CodeStage}
 use Rattle.core.specs.declared.stage.Stage.the-variants as G
-use Rattle.core.specs.declared.kept.Kept.the-variants as Q
-use Rattle.core.specs.Kept.{keptOf}
+use Rattle.keeps.specs.declared.Kept.the-variants as Q
+use Rattle.keeps.specs.Kept.{keptOf}
 use Rattle.machine.specs.declared.state.Machine.{Machine}
 use Rattle.core.specs.declared.answer.Answer.{Answer as CodeAnswer}
 use Rattle.core.specs.declared.answer.Answer.the-variants as B

@@ -13,7 +13,7 @@ use Rattle.cells.specs.Cells.{placeCells}
 use Rattle.core.specs.declared.answer.Answer.the-variants as B
 use Rattle.core.specs.declared.answer.Refusal.{Refusal}
 use Rattle.core.specs.declared.answer.Refusal.the-variants as K
-use Rattle.core.specs.Stages.{idleB}
+use Rattle.stages.specs.Stages.{idleB}
 use Rattle.gate.specs.declared.Operation.{Operation as CodeOperation}
 use Rattle.gate.specs.declared.Operation.the-variants as O
 use Rattle.gate.specs.declared.Request.the-variants.{Step, Begin}

@@ -17,7 +17,7 @@ use Rattle.core.specs.declared.answer.Answer.the-variants as B
 use Rattle.core.specs.declared.answer.Refusal.the-variants as K
 use Rattle.core.specs.declared.out.Claim.{Claim as CodeClaim}
 use Rattle.core.specs.declared.out.Claim.the-variants as J
-use Rattle.core.specs.Stages.{idleB}
+use Rattle.stages.specs.Stages.{idleB}
 use Rattle.sound.specs.Sound.{countsB}
 use Rattle.gate.specs.declared.Operation.{Operation as CodeOperation}
 use Rattle.gate.specs.declared.Request.the-variants.{Step, Begin}

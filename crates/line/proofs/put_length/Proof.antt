@@ -1,7 +1,7 @@
 -- Each part goes behind the last; a local holds the difference's bits, whose number is the difference.
 use mathlib.Core.Path.{_∙_}
 use Rattle.index.proofs.Signs.{back}
-use Rattle.text.proofs.WritingLaws.{put-then}
+use Rattle.writing.proofs.WritingLaws.{put-then}
 use borrow.Author.Needs.{needs}
 use Rattle.line.proofs.put_length.Statement.{statement}
 use Rattle.line.proofs.put_length.Tie as tie

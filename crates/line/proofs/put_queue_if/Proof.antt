@@ -2,7 +2,7 @@
 use mathlib.Core.Path.{sym}
 use borrow.Author.Tests.{lt-ltb, le-ltb}
 use borrow.Author.Needs.{needs}
-use Rattle.text.proofs.WritingLaws.{put-none}
+use Rattle.writing.proofs.WritingLaws.{put-none}
 use Rattle.line.proofs.put_queue_if.Statement.{statement}
 use Rattle.line.proofs.put_queue_if.Tie as tie
 

@@ -1,6 +1,6 @@
 -- The number goes behind the text.
 use mathlib.Core.Path.{_∙_}
-use Rattle.text.proofs.WritingLaws.{put-then}
+use Rattle.writing.proofs.WritingLaws.{put-then}
 use borrow.Author.Needs.{needs}
 use Rattle.line.proofs.put_told.Statement.{statement}
 use Rattle.line.proofs.put_told.Tie as tie

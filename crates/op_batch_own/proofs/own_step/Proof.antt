@@ -9,23 +9,23 @@ enum-known-at c = search needs
 reserve-step-requires : tie.Need-reserve-step-requires
 reserve-step-requires c κs = search needs
 
-enum-known-at-2 : tie.Need-enum-known-at-2
-enum-known-at-2 c = search needs
-
-enum-known-at-3 : tie.Need-enum-known-at-3
-enum-known-at-3 c = search needs
-
-put-step-requires : tie.Need-put-step-requires
-put-step-requires c κs = search needs
-
 same-length : tie.Need-same-length
 same-length c = search needs
 
 returns : tie.Need-returns
 returns c = rw (c .before .before .before .before .before .at .given .1, c .before .before .reserve-step .ensures)
 
+enum-known-at-2 : tie.Need-enum-known-at-2
+enum-known-at-2 c = search needs
+
 returns-2 : tie.Need-returns-2
 returns-2 c = rw (c .before .before .at2 .given .1)
+
+enum-known-at-3 : tie.Need-enum-known-at-3
+enum-known-at-3 c = search needs
+
+put-step-requires : tie.Need-put-step-requires
+put-step-requires c κs = search needs
 
 same-length-2 : tie.Need-same-length-2
 same-length-2 c = search needs
@@ -39,11 +39,11 @@ own-step-spec =
     (tie.spec
     enum-known-at
     reserve-step-requires
-    enum-known-at-2
-    enum-known-at-3
-    put-step-requires
     same-length
     returns
+    enum-known-at-2
     returns-2
+    enum-known-at-3
+    put-step-requires
     same-length-2
     returns-3)

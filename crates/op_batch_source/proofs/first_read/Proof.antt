@@ -18,14 +18,14 @@ copying-requires c κs = search needs
 take-at-requires : tie.Need-take-at-requires
 take-at-requires c κs = search needs
 
+returns : tie.Need-returns
+returns c = rw (c .before .before .before .before .enum-told .given .1, c .take-at .ensures, c .before .copying .ensures, c .before .before .turn .ensures, c .before .before .before .with-job .ensures)
+
 enum-told-2 : tie.Need-enum-told-2
 enum-told-2 c = search needs
 
 take-at-requires-2 : tie.Need-take-at-requires-2
 take-at-requires-2 c κs = search needs
-
-returns : tie.Need-returns
-returns c = rw (c .before .before .before .before .enum-told .given .1, c .take-at .ensures, c .before .copying .ensures, c .before .before .turn .ensures, c .before .before .before .with-job .ensures)
 
 returns-2 : tie.Need-returns-2
 returns-2 c = rw (c .before .enum-told2 .given .1, c .take-at2 .ensures)
@@ -39,7 +39,7 @@ first-read-spec =
     turn-requires
     copying-requires
     take-at-requires
+    returns
     enum-told-2
     take-at-requires-2
-    returns
     returns-2)

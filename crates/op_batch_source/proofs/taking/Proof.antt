@@ -16,20 +16,20 @@ copying-requires c κs = search needs
 take-at-requires : tie.Need-take-at-requires
 take-at-requires c κs = search needs
 
+returns : tie.Need-returns
+returns c = rw (c .before .before .before .enum-told .given .1, c .take-at .ensures, c .before .copying .ensures, c .before .before .turn .ensures)
+
 enum-told-2 : tie.Need-enum-told-2
 enum-told-2 c = search needs
 
 stopped-requires : tie.Need-stopped-requires
 stopped-requires c κs = search needs
 
-returns : tie.Need-returns
-returns c = rw (c .before .before .before .enum-told2 .given .1, c .stopped .ensures, le-leb _ _ (c .before .if1 .taken))
+returns-2 : tie.Need-returns-2
+returns-2 c = rw (c .before .before .before .enum-told2 .given .1, c .stopped .ensures, le-leb _ _ (c .before .if1 .taken))
 
 take-at-requires-2 : tie.Need-take-at-requires-2
 take-at-requires-2 c κs = search needs
-
-returns-2 : tie.Need-returns-2
-returns-2 c = rw (c .before .before .before .enum-told .given .1, c .take-at .ensures, c .before .copying .ensures, c .before .before .turn .ensures)
 
 returns-3 : tie.Need-returns-3
 returns-3 c = rw (c .before .before .before .enum-told2 .given .1, c .take-at2 .ensures, lt-leb _ _ (c .before .if1 .left))
@@ -42,9 +42,9 @@ taking-spec =
     turn-requires
     copying-requires
     take-at-requires
+    returns
     enum-told-2
     stopped-requires
-    returns
-    take-at-requires-2
     returns-2
+    take-at-requires-2
     returns-3)

@@ -22,12 +22,6 @@ large-buffer-requires-2 c κs = search needs
 new-requires : tie.Need-new-requires Inv-loop μ-loop
 new-requires c κs = search needs
 
-slice-aggregate-setup : tie.Need-slice-aggregate-setup Inv-loop μ-loop
-slice-aggregate-setup c = search needs
-
-setup-requires : tie.Need-setup-requires Inv-loop μ-loop
-setup-requires c κs = search needs
-
 loop-holds : tie.Need-loop-holds Inv-loop μ-loop
 loop-holds c = (refl, refl, refl)
 
@@ -103,8 +97,6 @@ main-spec =
     large-buffer-requires
     large-buffer-requires-2
     new-requires
-    slice-aggregate-setup
-    setup-requires
     loop-holds
     sub-turns
     slice-aggregate-read

@@ -10,10 +10,10 @@ use Rattle.play.proofs.play_part.Statement.{statement}
 use Rattle.play.proofs.play_part.Tie as tie
 
 abbrev Inv-loop : tie.InvT-loop
-Inv-loop part pool₀ page₀ stand₀ from₀ pool page stand from = (from ≤ length part) × (length pool ≡ length pool₀) × (length page ≡ length page₀)
+Inv-loop stand₀ part pool₀ page₀ from₀ stand pool page from = (from ≤ length part) × (length pool ≡ length pool₀) × (length page ≡ length page₀)
 
 abbrev μ-loop : tie.MeasureT-loop
-μ-loop part pool₀ page₀ stand₀ from₀ pool page stand from = length part - from
+μ-loop stand₀ part pool₀ page₀ from₀ stand pool page from = length part - from
 
 loop-holds : tie.Need-loop-holds Inv-loop μ-loop
 loop-holds c = (omega arith, refl, refl)
@@ -32,7 +32,7 @@ listen-requires c κs = search needs
 
 add-from : tie.Need-add-from Inv-loop μ-loop
 add-from c =
-    let l = c .before .before .before .before .before in
+    let l = c .before .before .before .before in
     let n = c .before .listen in
     let part = l .before .before .before .before .args .part .now in
     let rest = take (length part - l .loop .from) (drop (l .loop .from) part) in
@@ -44,10 +44,10 @@ act-requires : tie.Need-act-requires Inv-loop μ-loop
 act-requires c κs = search needs
 
 same-length : tie.Need-same-length Inv-loop μ-loop
-same-length c = let a = c .before .before .before .before .before in a .act .kept .1 .1 .0 ∙ a .before .before .before .before .before .before .before .before .loop .inv .1
+same-length c = let a = c .before .before .before .before .before in a .act .kept .1 .1 .0 ∙ a .before .before .before .before .before .before .before .loop .inv .1
 
 same-length-2 : tie.Need-same-length-2 Inv-loop μ-loop
-same-length-2 c = let a = c .before .before .before .before .before in a .act .kept .1 .1 .1 .0 ∙ a .before .before .before .before .before .before .before .before .loop .inv .2
+same-length-2 c = let a = c .before .before .before .before .before in a .act .kept .1 .1 .1 .0 ∙ a .before .before .before .before .before .before .before .loop .inv .2
 
 returns : tie.Need-returns Inv-loop μ-loop
 returns c = search needs
@@ -57,20 +57,20 @@ turn-page-requires c κs = search needs
 
 loop-less : tie.Need-loop-less Inv-loop μ-loop
 loop-less c =
-    let l = c .before .before .before .before .before .before .before .before .before .before .before .before .before .before .before in
+    let l = c .before .before .before .before .before .before .before .before .before .before .before .before .before .before in
     let n = c .before .before .before .before .before .before .before .before .before .before .before .listen in
     let part = l .before .before .before .before .args .part .now in
     let rest = take (length part - l .loop .from) (drop (l .loop .from) part) in
     let e : length rest ≡ length part - l .loop .from = left (l .loop .from) part in
     let w : n .result .used ≤ length rest = rw (n .ensures) (listen-within _ rest) in
-    let t = c .before .before .before .before .before .before .before .before .before .before .before .before .before .before .loop-test .taken in
+    let t = c .before .before .before .before .before .before .before .before .before .before .before .before .before .loop-test .taken in
     let h : 0 < length rest = omega (arith, t) in
     let s : 0 < n .result .used = rw (n .ensures) (listen-some _ rest h) in
     omega arith
 
 loop-again : tie.Need-loop-again Inv-loop μ-loop
 loop-again c =
-    let l = c .before .before .before .before .before .before .before .before .before .before .before .before .before .before .before in
+    let l = c .before .before .before .before .before .before .before .before .before .before .before .before .before .before in
     let n = c .before .before .before .before .before .before .before .before .before .before .before .listen in
     let part = l .before .before .before .before .args .part .now in
     let rest = take (length part - l .loop .from) (drop (l .loop .from) part) in

@@ -1,7 +1,7 @@
 -- Words that are no machine are refused; otherwise by what the calls ensure.
 use borrow.Author.Needs.{needs}
 use mathlib.Core.Bool.{true}
-use mathlib.Core.Path.{_≡_, sym, _∙_}
+use mathlib.Core.Path.{_≡_, sym, ap, _∙_}
 use borrow.Author.Tests.{not-true, not-false}
 use Rattle.words.specs.Slices.{machineB}
 use Rattle.export.specs.Exported.{askedWords}
@@ -28,11 +28,8 @@ machine-in-requires c κs = search needs
 call-requires : tie.Need-call-requires
 call-requires c κs = search needs
 
-store-requires : tie.Need-store-requires
-store-requires c κs = search needs
-
-answer-words-requires : tie.Need-answer-words-requires
-answer-words-requires c κs = search needs
+leave-requires : tie.Need-leave-requires
+leave-requires c κs = search needs
 
 same-length-2 : tie.Need-same-length-2
 same-length-2 c = search needs
@@ -43,12 +40,12 @@ same-length-3 c = search needs
 returns-2 : tie.Need-returns-2
 unfolding askedWords
 returns-2 c =
-    let held = c .before .before .before .store in
-    let call = c .before .before .before .before .before .before .before .before .call in
-    let read = c .before .before .before .before .before .before .before .before .before .before .machine-in in
-    let at = c .before .before .before .before .before .before .before .before .before .before .before .before in
+    let left = c .before .before .leave in
+    let call = c .before .before .before .before .before .before .call in
+    let read = c .before .before .before .before .before .before .before .before .machine-in in
+    let at = c .before .before .before .before .before .before .before .before .before .before in
     let is : machineB (at .before .before .before .before .before .args .machine .now) ≡ true = sym (at .before .is-machine .ensures) ∙ not-false _ (at .if1 .left) in
-    rw (c .answer-words .ensures, held .ensures .0, as-many _ is, is, ← read .ensures, ← call .ensures)
+    rw (ap (λ x. x .0) (left .ensures), ap (λ x. x .1) (left .ensures), as-many _ is, is, ← read .ensures, ← call .ensures)
 
 pub ask-spec : {M : Type 1} → statement M
 ask-spec =
@@ -60,8 +57,7 @@ ask-spec =
     returns
     machine-in-requires
     call-requires
-    store-requires
-    answer-words-requires
+    leave-requires
     same-length-2
     same-length-3
     returns-2)

@@ -18,11 +18,8 @@ flavors-of-requires c κs = search needs
 setup-requires : tie.Need-setup-requires
 setup-requires c κs = search needs
 
-store-requires : tie.Need-store-requires
-store-requires c κs = search needs
-
-answer-words-requires : tie.Need-answer-words-requires
-answer-words-requires c κs = search needs
+leave-requires : tie.Need-leave-requires
+leave-requires c κs = search needs
 
 same-length : tie.Need-same-length
 same-length c = search needs
@@ -30,11 +27,11 @@ same-length c = search needs
 returns-2 : tie.Need-returns-2
 unfolding setupWords
 returns-2 c =
-    let held = c .before .before .before .store in
-    let setup = c .before .before .before .before .before .before .setup in
-    let flavors = c .before .before .before .before .before .before .before .flavors-of in
-    let fits = eq-eqb _ _ (c .before .before .before .before .before .before .before .before .if1 .left) in
-    rw (c .answer-words .ensures, held .ensures .0, fits, ← flavors .ensures, ← setup .ensures)
+    let left = c .before .before .leave in
+    let setup = c .before .before .before .before .setup in
+    let flavors = c .before .before .before .before .before .flavors-of in
+    let fits = eq-eqb _ _ (c .before .before .before .before .before .before .if1 .left) in
+    rw (left .ensures, fits, ← flavors .ensures, ← setup .ensures)
 
 pub setup-spec : {M : Type 1} → statement M
 setup-spec =
@@ -44,7 +41,6 @@ setup-spec =
     returns
     flavors-of-requires
     setup-requires
-    store-requires
-    answer-words-requires
+    leave-requires
     same-length
     returns-2)

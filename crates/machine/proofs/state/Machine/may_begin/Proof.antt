@@ -3,31 +3,20 @@ use borrow.Author.Needs.{needs}
 use Rattle.machine.proofs.state.Machine.may_begin.Statement.{statement}
 use Rattle.machine.proofs.state.Machine.may_begin.Tie as tie
 
-gate-requires : tie.Need-gate-requires
-gate-requires c κs = search needs
-
-stage-requires : tie.Need-stage-requires
-stage-requires c κs = search needs
-
-is-idle-requires : tie.Need-is-idle-requires
-is-idle-requires c κs = search needs
+idle-requires : tie.Need-idle-requires
+idle-requires c κs = search needs
 
 begin-tests-requires : tie.Need-begin-tests-requires
 begin-tests-requires c κs = search needs
+
+gate-requires : tie.Need-gate-requires
+gate-requires c κs = search needs
 
 then-gate-requires : tie.Need-then-gate-requires
 then-gate-requires c κs = search needs
 
 returns : tie.Need-returns
-returns c = rw (c .then-gate .ensures, c .before .begin-tests .ensures, c .before .before .is-idle .ensures, c .before .before .before .stage .ensures, c .before .before .before .before .gate .ensures)
+returns c = rw (c .then-gate .ensures, c .before .gate .ensures, c .before .before .begin-tests .ensures, c .before .before .before .idle .ensures)
 
 pub may-begin-spec : {M : Type 1} → statement M
-may-begin-spec =
-    tie.close
-    (tie.spec
-    gate-requires
-    stage-requires
-    is-idle-requires
-    begin-tests-requires
-    then-gate-requires
-    returns)
+may-begin-spec = tie.close (tie.spec idle-requires begin-tests-requires gate-requires then-gate-requires returns)

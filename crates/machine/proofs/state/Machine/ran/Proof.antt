@@ -3,6 +3,9 @@ use borrow.Author.Needs.{needs}
 use Rattle.machine.proofs.state.Machine.ran.Statement.{statement}
 use Rattle.machine.proofs.state.Machine.ran.Tie as tie
 
+stage-requires : tie.Need-stage-requires
+stage-requires c κs = search needs
+
 own-queue-requires : tie.Need-own-queue-requires
 own-queue-requires c κs = search needs
 
@@ -33,10 +36,12 @@ returns c =
     let q = a .before .before in
     let t = q .before .before .before in
     let own = t .before .own-queue .ensures in
+    let stage = t .before .before .stage .ensures in
     let touched = rw own at (t .touched .ensures) in
     let mine = rw own at (q .before .before .queue .ensures) in
     rw (
       c .stored .ensures,
+      ← stage,
       ← touched,
       ← mine,
       ← q .queue2 .ensures,
@@ -45,4 +50,4 @@ returns c =
     )
 
 pub ran-spec : {M : Type 1} → statement M
-ran-spec = tie.close (tie.spec own-queue-requires touched-requires queue-requires claim-requires queue-requires-2 advance-requires stored-requires same-length returns)
+ran-spec = tie.close (tie.spec stage-requires own-queue-requires touched-requires queue-requires claim-requires queue-requires-2 advance-requires stored-requires same-length returns)

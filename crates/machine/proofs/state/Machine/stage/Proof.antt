@@ -4,11 +4,14 @@ use Rattle.machine.proofs.StateLaws.{none-at}
 use Rattle.machine.proofs.state.Machine.stage.Statement.{statement}
 use Rattle.machine.proofs.state.Machine.stage.Tie as tie
 
-mul-thread : tie.Need-mul-thread
-mul-thread c = search needs
+mul-stage-of : tie.Need-mul-stage-of
+mul-stage-of c = search needs
 
-element-copy-out-thread : tie.Need-element-copy-out-thread
-element-copy-out-thread c = search needs
+element-copy-out-stage-of : tie.Need-element-copy-out-stage-of
+element-copy-out-stage-of c = search needs
+
+stage-of-requires : tie.Need-stage-of-requires
+stage-of-requires c κs = search needs
 
 returns : tie.Need-returns
 returns c = search needs
@@ -19,4 +22,4 @@ returns-2 c =
     rw (none-at (a .args .t1 .threads) _ (a .good .0 .1 .1 .1 .0 .1 .0 .1) (c .if1 .left))
 
 pub stage-spec : {M : Type 1} → statement M
-stage-spec = tie.close (tie.spec mul-thread element-copy-out-thread returns returns-2)
+stage-spec = tie.close (tie.spec mul-stage-of element-copy-out-stage-of stage-of-requires returns returns-2)

@@ -10,9 +10,6 @@ may-step-requires c κs = search needs
 enum-told : tie.Need-enum-told
 enum-told c = search needs
 
-stage-requires : tie.Need-stage-requires
-stage-requires c κs = search needs
-
 ran-requires : tie.Need-ran-requires
 ran-requires c κs = search needs
 
@@ -22,13 +19,8 @@ same-length c = search needs
 returns : tie.Need-returns
 unfolding stepOf
 returns c =
-    let s = c .before .before .before in
-    rw (
-      c .before .before .ran .ensures,
-      s .stage .ensures,
-      ← s .before .before .before .before .may-step .ensures,
-      s .before .before .enum-told .given .1,
-    )
+    let r = c .before .before in
+    rw (r .ran .ensures, ← r .before .before .before .before .may-step .ensures, r .before .before .enum-told .given .1)
 
 enum-known-refusal : tie.Need-enum-known-refusal
 enum-known-refusal c = search needs
@@ -41,4 +33,4 @@ unfolding stepOf
 returns-2 c = rw (c .refused .ensures, ← c .before .before .before .before .may-step .ensures, c .before .before .refusal .given .1)
 
 pub step-spec : {M : Type 1} → statement M
-step-spec = tie.close (tie.spec may-step-requires enum-told stage-requires ran-requires same-length returns enum-known-refusal refused-requires returns-2)
+step-spec = tie.close (tie.spec may-step-requires enum-told ran-requires same-length returns enum-known-refusal refused-requires returns-2)

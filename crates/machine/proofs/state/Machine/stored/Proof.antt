@@ -3,17 +3,17 @@ use borrow.Author.Needs.{needs}
 use Rattle.machine.proofs.state.Machine.stored.Statement.{statement}
 use Rattle.machine.proofs.state.Machine.stored.Tie as tie
 
-counted-requires : tie.Need-counted-requires
-counted-requires c κs = search needs
+number-after-requires : tie.Need-number-after-requires
+number-after-requires c κs = search needs
 
-with-queue-requires : tie.Need-with-queue-requires
-with-queue-requires c κs = search needs
+queues-with-requires : tie.Need-queues-with-requires
+queues-with-requires c κs = search needs
 
 with-stage-requires : tie.Need-with-stage-requires
 with-stage-requires c κs = search needs
 
 returns : tie.Need-returns
-returns c = rw (c .with-stage .ensures, c .before .with-queue .ensures, c .before .before .counted .ensures)
+returns c = rw (c .with-stage .ensures, c .before .queues-with .ensures, c .before .before .before .number-after .ensures)
 
 pub stored-spec : {M : Type 1} → statement M
-stored-spec = tie.close (tie.spec counted-requires with-queue-requires with-stage-requires returns)
+stored-spec = tie.close (tie.spec number-after-requires queues-with-requires with-stage-requires returns)
