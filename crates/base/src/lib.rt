@@ -1,1 +1,1 @@
-// What every definition uses: tests, and what holds below a number. Definitions and laws alone, in specs/.
+// What every crate uses: tests, what holds below a number, powers of two. Definitions and laws alone, in specs/ and proofs/.

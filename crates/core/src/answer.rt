@@ -1,4 +1,4 @@
-// What a call answers, with its numbers in the paper's table.
+// What a call answers, with its numbers in 01's table.
 ghost use mathlib.Core.Path.{_≡_};
 ghost use Rattle.core.specs.Answers.{refusalOf, shortageOf};
 use steal::Steal;

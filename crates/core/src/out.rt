@@ -1,3 +1,4 @@
+// What a claim, a step of a resize and a step leave.
 ghost use mathlib.Core.Path.{_≡_};
 ghost use Rattle.core.specs.Out.{going as goingOf, ended as endedOf};
 use crate::answer::Answer;

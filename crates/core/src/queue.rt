@@ -1,7 +1,6 @@
 // A queue: its flavour, front and back, and the ring that it has now.
 ghost use mathlib.Core.Path.{_≡_};
-ghost use lib.ListN.{getD};
-ghost use Rattle.core.specs.Queues.{flavorOf, zeroQueue};
+ghost use Rattle.core.specs.Queues.{flavorOf, zeroQueue, queueIn};
 use index::Index;
 use ring::PlaceNumber;
 use ring::Ring;
@@ -48,7 +47,7 @@ pub fn zero_queue() -> Queue
 
 // Queue k of these, and zeros where there is none.
 pub fn queue_of(queues: [Queue; 4], k: usize) -> Queue
-    ensures { λ r. ⌜ r ≡ getD queues k zeroQueue ⌝ }
+    ensures { λ r. ⌜ r ≡ queueIn queues k ⌝ }
 {
     if k < 4 { queues[k] } else { zero_queue() }
 }

@@ -1,6 +1,8 @@
 -- What the exported functions leave: the machine's words, the pool's cells, the answer's four words.
 use Prim.Native.Nat.{ℕ}
+use mathlib.Core.Bool.{true}
 use mathlib.Core.List.{List, [], _∷_}
+use mathlib.Core.Path.{_≡_}
 use lib.Dec.{eqb}
 use lib.ListN.{length}
 use Rattle.base.specs.Tests.{pick}
@@ -18,7 +20,7 @@ use Rattle.kinds.specs.Kinds.{requestOf}
 use Rattle.slots.specs.Queue.{flavorsOf}
 use Rattle.slots.specs.Answer.{answerWords}
 use Rattle.words.specs.Slices.{machineSize, machineB}
-use Rattle.export.specs.Words.{machineIn, machinePut, storedOf}
+use Rattle.export.specs.Words.{machineIn, machinePut, storedOf, Told}
 
 -- words that are no machine are refused
 abbrev pub unsoundWords : List ℕ
@@ -35,6 +37,10 @@ unfoldable pub setupWords : List ℕ → List ℕ → ℕ → ℕ → ℕ → Li
 setupWords w cells k bits n =
     pick (eqb (length w) machineSize) (setWords w (setupOf k (flavorsOf bits) n cells)) (w, unsoundWords)
 
+-- the words that it leaves are the new machine's
+abbrev pub SetupTold : List ℕ → List ℕ → ℕ → ℕ → ℕ → List ℕ → Type 0
+SetupTold w cells k bits n after = length w ≡ machineSize → Told after (setupOf k (flavorsOf bits) n cells .called .machine)
+
 abbrev pub calledWords : List ℕ → After → List ℕ × List ℕ × List ℕ
 calledWords w a = (machinePut w (a .called .machine), a .cells, answerWords (a .called .answer))
 
@@ -45,6 +51,14 @@ askedWords w cells t r = pick (machineB w) (calledWords w (callOf (machineIn w) 
 abbrev pub callWords : List ℕ → List ℕ → ℕ → KindRead → ℕ → ℕ → List ℕ × List ℕ × List ℕ
 callWords w cells t (Kind k) src n = askedWords w cells t (requestOf t k src n)
 callWords w cells t Wrong src n = (w, cells, 11 ∷ 0 ∷ 0 ∷ 0 ∷ [])
+
+-- words of a machine are left as words of a machine: of the one that the call leaves
+abbrev pub AskedTold : List ℕ → List ℕ → ℕ → Request → List ℕ → Type 0
+AskedTold w cells t r after = machineB w ≡ true → Told after (callOf (machineIn w) cells t r .called .machine)
+
+abbrev pub CallTold : List ℕ → List ℕ → ℕ → KindRead → ℕ → ℕ → List ℕ → Type 0
+CallTold w cells t (Kind k) src n after = AskedTold w cells t (requestOf t k src n) after
+CallTold w cells t Wrong src n after = Unit
 
 unfoldable pub shownWords : List ℕ → List ℕ → ℕ → ℕ
 shownWords w cells q = pick (machineB w) (length (shownOf (machineIn w) cells q)) 0

@@ -1,7 +1,10 @@
 // What firmware calls, through `hub_queues`. The machine is lent as 91 words, the pool as its cells; the answer is put into four words.
 ghost use mathlib.Core.Path.{_≡_};
+ghost use lib.ListN.{length};
 ghost use Rattle.kinds.specs.Kinds.{kindOf};
-ghost use Rattle.export.specs.Exported.{unsoundWords, leftWords, setupWords, askedWords, callWords, shownWords};
+ghost use Rattle.words.specs.Slices.{machineSize};
+ghost use Rattle.export.specs.Exported.{unsoundWords, leftWords, setupWords, SetupTold, askedWords, AskedTold, callWords, CallTold, shownWords};
+ghost use Rattle.export.specs.Words.{Told};
 use crate::reading::machine_in;
 use crate::writing::store;
 use core::answer::Answer;
@@ -30,6 +33,7 @@ fn no_machine() -> [u64; 4]
 // What a call left, as words: the machine's, and the answer's.
 fn leave(machine: &mut [u64], called: Called) -> [u64; 4]
     ensures { λ r. ⌜ (now (machine .exit), r) ≡ leftWords (now (machine .entry)) called ⌝ }
+    ensures { λ _. ⌜ (length (now (machine .entry)) ≡ machineSize → Told (now (machine .exit)) (called .machine)) ⌝ }
 {
     store(machine, called.machine);
     let answer = called.answer;
@@ -45,6 +49,7 @@ pub fn setup(
     answer: &mut [u64; 4],
 )
     ensures { λ _. ⌜ (now (machine .exit), now (answer .exit)) ≡ setupWords (now (machine .entry)) (now (pool .entry)) queues flavors places ⌝ }
+    ensures { λ _. ⌜ SetupTold (now (machine .entry)) (now (pool .entry)) queues flavors places (now (machine .exit)) ⌝ }
 {
     if machine.len() != MACHINE_WORDS {
         *answer = no_machine();
@@ -57,6 +62,7 @@ pub fn setup(
 // A call that is asked for.
 fn ask(machine: &mut [u64], pool: &mut [u64], thread: usize, request: Request) -> [u64; 4]
     ensures { λ r. ⌜ (now (machine .exit), now (pool .exit), r) ≡ askedWords (now (machine .entry)) (now (pool .entry)) thread request ⌝ }
+    ensures { λ _. ⌜ AskedTold (now (machine .entry)) (now (pool .entry)) thread request (now (machine .exit)) ⌝ }
 {
     if !is_machine(machine) {
         return no_machine();
@@ -77,6 +83,7 @@ pub fn call(
     answer: &mut [u64; 4],
 )
     ensures { λ _. ⌜ (now (machine .exit), now (pool .exit), now (answer .exit)) ≡ callWords (now (machine .entry)) (now (pool .entry)) thread (kindOf kind) source operand ⌝ }
+    ensures { λ _. ⌜ CallTold (now (machine .entry)) (now (pool .entry)) thread (kindOf kind) source operand (now (machine .exit)) ⌝ }
 {
     match kind_of(kind) {
         KindRead::Kind(known) => {

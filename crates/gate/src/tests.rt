@@ -1,4 +1,4 @@
-// The tests, in the paper's order: setup 2, 1; begin 3, 1, 4 (thread, then source), 5, 7; step 3, 1, 4, 6.
+// The tests, in 01's order: setup 2, 1; begin 3, 1, 4 (thread, then source), 5, 7; step 3, 1, 4, 6.
 ghost use Prim.Native.Nat.{_*_};
 ghost use mathlib.Core.Path.{_≡_};
 ghost use lib.Dec.{eqb};

@@ -1,7 +1,7 @@
 // The functions that firmware links: the exported ones under names of their own.
 ghost use mathlib.Core.Path.{_≡_};
 ghost use Rattle.kinds.specs.Kinds.{kindOf};
-ghost use Rattle.export.specs.Exported.{setupWords, callWords, shownWords};
+ghost use Rattle.export.specs.Exported.{setupWords, SetupTold, callWords, CallTold, shownWords};
 use export::exported::call;
 use export::exported::setup;
 use export::exported::shown;
@@ -16,6 +16,7 @@ pub extern "C" fn hub_queues_setup(
     answer: &mut [u64; 4],
 )
     ensures { λ _. ⌜ (now (machine .exit), now (answer .exit)) ≡ setupWords (now (machine .entry)) (now (pool .entry)) queues flavors places ⌝ }
+    ensures { λ _. ⌜ SetupTold (now (machine .entry)) (now (pool .entry)) queues flavors places (now (machine .exit)) ⌝ }
 {
     setup(machine, pool, queues, flavors, places, answer);
 }
@@ -31,6 +32,7 @@ pub extern "C" fn hub_queues_call(
     answer: &mut [u64; 4],
 )
     ensures { λ _. ⌜ (now (machine .exit), now (pool .exit), now (answer .exit)) ≡ callWords (now (machine .entry)) (now (pool .entry)) thread (kindOf kind) source operand ⌝ }
+    ensures { λ _. ⌜ CallTold (now (machine .entry)) (now (pool .entry)) thread (kindOf kind) source operand (now (machine .exit)) ⌝ }
 {
     call(machine, pool, thread, kind, source, operand, answer);
 }

@@ -9,7 +9,7 @@ use lib.Count.{ones}
 use lib.IntN.{ℤ, pos, negsuc}
 use lib.Pow.{pow-pos, pow-lt, ones-split, ones-lt, low, mod-mod-pow}
 use Rattle.base.specs.Tests.{le-or-lt}
-use Rattle.base.specs.Powers.{power-of}
+use Rattle.base.proofs.Powers.{power-of}
 use Rattle.index.specs.declared.Index.{Index}
 use Rattle.index.specs.Index.{modZ, cellOf}
 

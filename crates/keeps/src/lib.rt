@@ -111,13 +111,11 @@ pub fn ring_kept(stage: Stage) -> Kept
     ensures { λ r. ⌜ r ≡ keptOf stage ⌝ }
 {
     match stage {
-        Stage::Idle => Kept::Nothing,
         Stage::Push(_, at) => push_keeps(at),
         Stage::Pop(_, at) => pop_keeps(at),
         Stage::Steal(_, at) => steal_keeps(at),
-        Stage::Length(_, _) => Kept::Nothing,
-        Stage::OwnBatch(_) => Kept::Nothing,
         Stage::BatchSource(_, at) => source_keeps(at),
         Stage::BatchOwn(_, at) => own_keeps(at),
+        _ => Kept::Nothing,
     }
 }

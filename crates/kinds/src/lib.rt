@@ -57,14 +57,8 @@ pub fn has_source(kind: Kind) -> bool
     ensures { λ r. ⌜ r ≡ sourceB kind ⌝ }
 {
     match kind {
-        Kind::Step => false,
-        Kind::Push => false,
-        Kind::Pop => false,
-        Kind::OwnLength => false,
-        Kind::Length => true,
-        Kind::Steal => true,
-        Kind::Batch => true,
-        Kind::BatchAndPop => true,
+        Kind::Length | Kind::Steal | Kind::Batch | Kind::BatchAndPop => true,
+        _ => false,
     }
 }
 
@@ -73,14 +67,8 @@ pub fn has_operand(kind: Kind) -> bool
     ensures { λ r. ⌜ r ≡ operandB kind ⌝ }
 {
     match kind {
-        Kind::Step => false,
-        Kind::Push => true,
-        Kind::Pop => false,
-        Kind::OwnLength => false,
-        Kind::Length => false,
-        Kind::Steal => false,
-        Kind::Batch => true,
-        Kind::BatchAndPop => true,
+        Kind::Push | Kind::Batch | Kind::BatchAndPop => true,
+        _ => false,
     }
 }
 

@@ -2,7 +2,6 @@
 use Prim.Native.Nat.{ℕ}
 use mathlib.Core.List.{List, [], _++_}
 use lib.Dec.{ltb}
-use lib.ListN.{getD}
 use Rattle.base.specs.Tests.{pick}
 use Rattle.writing.specs.Writing.{ascii, decimal, signed}
 use Rattle.steal.specs.declared.Steal.{Steal}
@@ -12,7 +11,7 @@ use Rattle.core.specs.declared.queue.Queue.{Queue}
 use Rattle.core.specs.declared.answer.Answer.{Answer}
 use Rattle.core.specs.declared.answer.Answer.the-variants.{Working, Done, Job, Nothing, Stolen, Moved, Length, GaveUp, Refused}
 use Rattle.core.specs.Answers.{refusalOf, shortageOf}
-use Rattle.core.specs.Queues.{zeroQueue}
+use Rattle.core.specs.Queues.{queueIn}
 
 abbrev pub stolenText : Steal → List ℕ
 stolenText Empty = ascii "empty"
@@ -42,7 +41,7 @@ queueText q = ascii "\t" ++ (signed (q .front .0) ++ (ascii " " ++ (signed (q .b
 
 -- queue k of n
 abbrev pub queueTextIf : ℕ → List Queue → ℕ → List ℕ
-queueTextIf n queues k = pick (ltb k n) (queueText (getD queues k zeroQueue)) []
+queueTextIf n queues k = pick (ltb k n) (queueText (queueIn queues k)) []
 
 abbrev pub callText : ℕ → List Queue → Answer → List ℕ
 callText n queues a =

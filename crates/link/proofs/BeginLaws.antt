@@ -22,7 +22,7 @@ use Rattle.machine.specs.declared.state.Machine.{Machine}
 use Rattle.machine.specs.State.{after, idleThread, withStage}
 use Rattle.gate.specs.Gate.{namesB, limitB}
 use Rattle.machine.specs.Begin.{beginOf}
-use Rattle.machine.specs.Begin as H
+use Rattle.starts.specs.Starts as H
 use Rattle.model.specs.Count.{upd}
 use Rattle.model.specs.Stage.{Flavour, fifo, lifo, Popper, byPop, byBatch, BatchKind, plain, andPop, none, Stage, idle}
 use Rattle.model.specs.Machine.{State, Operation, do-push, do-pop, do-length, do-steal, do-batch, popping, fromOwn, firstStage, begun, Exists}

@@ -8,7 +8,8 @@ use native.Mathlib.Omega.{arith}
 use lib.Dec.{eqb}
 use borrow.Author.Tests.{eq-eqb}
 use Rattle.base.specs.Tests.{pick}
-use Rattle.base.specs.Below.{anyBelow, firstNot, any-at}
+use Rattle.base.specs.Below.{anyBelow, firstNot}
+use Rattle.base.proofs.BelowLaws.{any-at}
 use Rattle.ring.specs.declared.Ring.{Ring}
 use Rattle.keeps.specs.Kept.{keptOf}
 use Rattle.places.specs.Places.{keepsIn}

@@ -5,7 +5,7 @@ use lib.ListN.{getD, set}
 use Rattle.ring.specs.declared.RingNumber.{RingNumber}
 use Rattle.ring.specs.Number.{nextNumber}
 use Rattle.core.specs.declared.queue.Queue.{Queue}
-use Rattle.core.specs.Queues.{zeroQueue}
+use Rattle.core.specs.Queues.{queueIn}
 use Rattle.core.specs.declared.stage.Stage.{Stage}
 use Rattle.core.specs.declared.stage.Stage.the-variants.{Idle}
 use Rattle.keeps.specs.declared.Kept.{Kept}
@@ -41,7 +41,7 @@ abbrev pub idleThread : Thread
 idleThread = record { stage = Idle }
 
 abbrev pub queueAt : Machine → ℕ → Queue
-queueAt m k = getD (m .queues) k zeroQueue
+queueAt m k = queueIn (m .queues) k
 
 abbrev pub stageAt : Machine → ℕ → Stage
 stageAt m t = getD (m .threads) t idleThread .stage

@@ -25,15 +25,16 @@ abbrev pub passing : Gate → Machine → List ℕ → After → After
 passing Open m cells a = a
 passing (Shut r) m cells a = refused m r cells
 
+-- what the step of thread t at stage s leaves, of the queue that it touches; g: what a claim found
+abbrev pub advanced : Machine → List ℕ → ℕ → Stage → Claim → Left
+advanced m cells t s g = advanceOf s (queueAt m (ownQueue t) .flavor) (queueAt m (touchedOf s (ownQueue t))) g cells
+
 -- the machine with what thread t's step left of queue k
-abbrev pub stored : Machine → ℕ → ℕ → Claim → Left → After
-stored m t k g l =
-    after (withStage (withQueue (counted m g) k (l .out .queue)) t (l .out .stage)) (l .out .answer) (l .cells)
+abbrev pub stored : Machine → ℕ → ℕ → Left → After
+stored m t k l = after (withStage (withQueue m k (l .out .queue)) t (l .out .stage)) (l .out .answer) (l .cells)
 
 abbrev pub ran : Machine → List ℕ → ℕ → Stage → After
-ran m cells t s =
-    stored m t (touchedOf s (ownQueue t)) (claimOf m s)
-    (advanceOf s (queueAt m (ownQueue t) .flavor) (queueAt m (touchedOf s (ownQueue t))) (claimOf m s) cells)
+ran m cells t s = stored (counted m (claimOf m s)) t (touchedOf s (ownQueue t)) (advanced m cells t s (claimOf m s))
 
 unfoldable pub stepOf : Machine → List ℕ → ℕ → After
 stepOf m cells t = passing (thenGate (gateOf m (length cells) t) (stepTests (idleB (stageAt m t)))) m cells (ran m cells t (stageAt m t))

@@ -1,7 +1,8 @@
 // Whether a machine is sound.
 ghost use mathlib.Core.Path.{_≡_};
 ghost use mathlib.Core.Bool.{_&&_};
-ghost use Rattle.sound.specs.Sound.{queueIn, queuesSoundOf, stageSound};
+ghost use Rattle.core.specs.Queues.{queueIn};
+ghost use Rattle.sound.specs.Sound.{queuesSoundOf, stageSound};
 ghost use Rattle.places.specs.Places.{keptIn, allApartOf};
 ghost use Rattle.machine.specs.State.{stageAt};
 ghost use Rattle.machine.specs.Sound.{stagesSound, soundB};

@@ -2,10 +2,10 @@
 ghost use mathlib.Core.Path.{_≡_};
 ghost use mathlib.Core.List.{[]};
 ghost use Rattle.core.specs.Out.{left};
-ghost use Rattle.stages.specs.Stages.{idleB};
-ghost use Rattle.gate.specs.Gate.{stepTests, thenGate};
+ghost use Rattle.stages.specs.Stages.{touchedOf, idleB};
+ghost use Rattle.gate.specs.Gate.{ownQueue, stepTests, thenGate};
 ghost use Rattle.machine.specs.State.{leaves, stageAt};
-ghost use Rattle.machine.specs.Step.{gateOf, stored as storedOf, ran as ranOf, stepOf};
+ghost use Rattle.machine.specs.Step.{gateOf, advanced as advancedOf, stored as storedOf, stepOf};
 use crate::state::Called;
 use crate::state::Machine;
 use crate::state::number_after;
@@ -28,12 +28,28 @@ impl Machine {
         then_gate(self.gate(length, thread), step_tests(idle))
     }
 
+    // The queue that the thread's step touches.
+    fn touches(self, thread: usize) -> usize
+        ensures { λ r. ⌜ r ≡ touchedOf (stageAt self thread) (ownQueue thread) ⌝ }
+    {
+        touched(self.stage(thread), own_queue(thread))
+    }
+
+    // What the thread's step leaves of that queue, given what it claims.
+    fn advanced(self, pool: &mut [u64], thread: usize, claim: Claim) -> Out
+        ensures { λ r. ⌜ left r (now (pool .exit)) ≡ advancedOf self (now (pool .entry)) thread (stageAt self thread) claim ⌝ }
+    {
+        let q = self.queue(self.touches(thread));
+        let mine = self.queue(own_queue(thread));
+        let flavor = mine.flavor;
+        advance(self.stage(thread), flavor, q, claim, pool)
+    }
+
     // The machine with what the thread's step left of queue k.
-    fn stored(mut self, thread: usize, k: usize, claim: Claim, out: Out) -> Called
-        ensures { λ r. ⌜ r ≡ storedOf self thread k claim (left out []) .called ⌝ }
+    fn stored(mut self, thread: usize, k: usize, out: Out) -> Called
+        ensures { λ r. ⌜ r ≡ storedOf self thread k (left out []) .called ⌝ }
     {
         let stage = out.stage;
-        self.next_ring = number_after(self.next_ring, claim);
         let queues = self.queues;
         let changed = queues_with(queues, k, out.queue);
         self.queues = changed;
@@ -45,26 +61,16 @@ impl Machine {
         }
     }
 
-    // A step that passed the tests: look up, claim if the stage wants to, advance, store back.
-    fn ran(self, pool: &mut [u64], thread: usize) -> Called
-        ensures { λ r. ⌜ leaves r (now (pool .exit)) ≡ ranOf self (now (pool .entry)) thread (stageAt self thread) ⌝ }
-    {
-        let stage = self.stage(thread);
-        let own = own_queue(thread);
-        let k = touched(stage, own);
-        let mine = self.queue(own);
-        let flavor = mine.flavor;
-        let claim = self.claim(stage);
-        let out = advance(stage, flavor, self.queue(k), claim, pool);
-        self.stored(thread, k, claim, out)
-    }
-
-    pub fn step(self, pool: &mut [u64], thread: usize) -> Called
+    pub fn step(mut self, pool: &mut [u64], thread: usize) -> Called
         ensures { λ r. ⌜ leaves r (now (pool .exit)) ≡ stepOf self (now (pool .entry)) thread ⌝ }
     {
         match self.may_step(pool.len(), thread) {
             Gate::Open => {
-                return self.ran(pool, thread);
+                let k = self.touches(thread);
+                let claim = self.claim(thread);
+                let out = self.advanced(pool, thread, claim);
+                self.next_ring = number_after(self.next_ring, claim);
+                return self.stored(thread, k, out);
             }
             Gate::Shut(refusal) => {
                 return self.refused(refusal);

@@ -1,7 +1,7 @@
 // Whether current and built rings are in different places.
 ghost use mathlib.Core.Path.{_≡_};
 ghost use Rattle.base.specs.Below.{allBelow};
-ghost use Rattle.sound.specs.Sound.{queueIn};
+ghost use Rattle.core.specs.Queues.{queueIn};
 ghost use Rattle.places.specs.Places.{keptIn, apartOf, allApartOf};
 use crate::kept::both_build;
 use crate::kept::builds_in;

@@ -11,7 +11,7 @@ pub(crate) fn kept_of(kept: [Kept; 4], t: usize) -> Kept
 }
 
 // A ring is being built in this place.
-pub fn builds_in(kept: Kept, place: usize) -> bool
+pub(crate) fn builds_in(kept: Kept, place: usize) -> bool
     ensures { λ r. ⌜ r ≡ buildsIn kept place ⌝ }
 {
     match kept {
@@ -22,7 +22,7 @@ pub fn builds_in(kept: Kept, place: usize) -> bool
 }
 
 // Two rings are being built in one place.
-pub fn both_build(kept: Kept, other: Kept) -> bool
+pub(crate) fn both_build(kept: Kept, other: Kept) -> bool
     ensures { λ r. ⌜ r ≡ bothBuild kept other ⌝ }
 {
     match kept {
@@ -33,7 +33,7 @@ pub fn both_build(kept: Kept, other: Kept) -> bool
 }
 
 // A ring is built or held in this place.
-pub fn keeps_in(kept: Kept, place: usize) -> bool
+pub(crate) fn keeps_in(kept: Kept, place: usize) -> bool
     ensures { λ r. ⌜ r ≡ keepsIn kept place ⌝ }
 {
     match kept {

@@ -1,6 +1,6 @@
 // Which places are in use, and the one that a claim takes.
 ghost use mathlib.Core.Path.{_≡_};
-ghost use Rattle.sound.specs.Sound.{queueIn};
+ghost use Rattle.core.specs.Queues.{queueIn};
 ghost use Rattle.places.specs.Places.{keptIn, usedByOf, usedOf, freePlaceOf};
 use crate::apart::place_of;
 use crate::kept::keeps_in;

@@ -5,7 +5,7 @@ use mathlib.Core.List.{List, [], _∷_}
 use Prim.Native.Nat.{ℕ}
 use native.Mathlib.Omega.{arith}
 use lib.Count.{ones, onesIn}
-use lib.ListN.{length as count}
+use lib.ListN.{getD}
 use Rattle.base.specs.Below.{allBelow, anyBelow, firstNot}
 use Rattle.index.specs.Index.{modZ, wrap, plusOf, differenceOf, lengthOf, behindB, emptyB, fullB, spansB, sameB, cellOf}
 use Rattle.ring.specs.Capacity.{allowedB}
@@ -21,7 +21,7 @@ use Rattle.machine.specs.Setup.{setupOf}
 use Rattle.machine.specs.Step.{gateOf, stepOf}
 use Rattle.machine.specs.Begin.{beginOf}
 use Rattle.games.specs.Play.{setup, begin, steps, alone, finish, answerOf}
-use Rattle.promise.specs.Machines.{Steps, refuses, says-empty, says-retry, stands-still, leaves-stolen, does-all, makes-up, loses-cells, tested}
+use Rattle.promise.specs.Machines.{Steps, refuses, says-empty, says-retry, stands-still, leaves-stolen, does-all, makes-up, writes-refused, tested}
 
 abbrev at : Steps → After → After
 at w s = w (s .called .machine) (s .cells) 0
@@ -42,8 +42,8 @@ kind a = told (answerOf a) .kind
 abbrev length : After → ℕ
 length a = told (answerOf a) .length
 
-abbrev many : After → ℕ
-many a = count (a .cells)
+abbrev first-cell : After → ℕ
+first-cell a = getD (a .cells) 0 0
 
 abbrev front : After → ℕ
 front a = modZ (queueAt (a .called .machine) 0 .front .0) 64
@@ -70,11 +70,11 @@ stealing = steps 0 5 (begin 0 (Steal 0) (alone 0 (Push 7) (setup (Fifo ∷ []) 1
 
 -- ---- what is promised there, and what those machines show that play on
 
-pub promised : (kind (at tested begun) ≡ 0) × (back (at tested written) ≡ 1) × (front (at tested stealing) ≡ 1) × (length (at tested asked) ≡ 0) × (many (at tested idling) ≡ 256)
+pub promised : (kind (at tested begun) ≡ 0) × (back (at tested written) ≡ 1) × (front (at tested stealing) ≡ 1) × (length (at tested asked) ≡ 0) × (first-cell (at tested idling) ≡ 0)
 unfolding steps finish allBelow anyBelow firstNot wrap plusOf differenceOf lengthOf behindB emptyB fullB spansB sameB cellOf allowedB standsB spot readOf writtenOf soundB freeRing setupOf gateOf stepOf beginOf ones onesIn
 promised = (refl, refl, refl, refl, refl)
 
-pub shown : (back (at stands-still written) ≡ 0) × (front (at leaves-stolen stealing) ≡ 0) × (kind (at does-all begun) ≡ 1) × (many (at loses-cells idling) ≡ 0)
+pub shown : (back (at stands-still written) ≡ 0) × (front (at leaves-stolen stealing) ≡ 0) × (kind (at does-all begun) ≡ 1) × (first-cell (at writes-refused idling) ≡ 7)
 unfolding steps finish allBelow anyBelow firstNot wrap plusOf differenceOf lengthOf behindB emptyB fullB spansB sameB cellOf allowedB standsB spot readOf writtenOf soundB freeRing setupOf gateOf stepOf beginOf ones onesIn
 shown = (refl, refl, refl, refl)
 
@@ -101,5 +101,5 @@ all-at-once = shut-out does-all kind begun 1 0 (shown .2) (promised .0) (λ e. o
 pub makes-up-lengths : Keeps makes-up → ⊥
 makes-up-lengths = shut-out makes-up length asked 7 0 refl (promised .3) (λ e. omega arith)
 
-pub changes-refused : Keeps loses-cells → ⊥
-changes-refused = shut-out loses-cells many idling 0 256 (shown .3) (promised .4) (λ e. omega arith)
+pub changes-refused : Keeps writes-refused → ⊥
+changes-refused = shut-out writes-refused first-cell idling 7 0 (shown .3) (promised .4) (λ e. omega arith)

@@ -1,8 +1,9 @@
 -- Wrong machines, and the machine that the promise of `step` is tried on.
 use Prim.Native.Nat.{ℕ}
-use mathlib.Core.List.{List, []}
+use mathlib.Core.List.{List}
 use lib.Dec.{eqb}
 use lib.IntN.{pos}
+use lib.ListN.{set}
 use Rattle.base.specs.Tests.{pick}
 use Rattle.steal.specs.declared.Steal.the-variants as T
 use Rattle.core.specs.declared.answer.Answer.the-variants as A
@@ -42,11 +43,11 @@ does-all m cells t = steps t 4 (after m A.Working cells)
 abbrev pub makes-up : Steps
 makes-up m cells t = after m (A.Length (pos 7) 7) cells
 
--- it answers as it should, and a refused call loses the cells
-abbrev pub loses-cells : Steps
-loses-cells m cells t =
+-- it answers as it should, and a refused call writes the first cell
+abbrev pub writes-refused : Steps
+writes-refused m cells t =
     let a : After = stepOf m cells t in
-    after (a .called .machine) (a .called .answer) (pick (eqb (told (a .called .answer) .kind) 10) [] (a .cells))
+    after (a .called .machine) (a .called .answer) (pick (eqb (told (a .called .answer) .kind) 10) (set (a .cells) 0 7) (a .cells))
 
 -- each must-fail edit puts a wrong machine here
 abbrev pub tested : Steps

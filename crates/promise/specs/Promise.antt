@@ -34,6 +34,6 @@ stepped = record { form = left; result = λ v. v .out; rest = λ v. v .cells; re
 abbrev pub printed : Form ℕ (List ℕ) Page
 printed = record { form = λ r c. page c r; result = λ v. v .at; rest = λ v. v .bytes; result-is = λ r c. refl; rest-is = λ r c. refl }
 
--- the result beside two lists that were lent: a player's scene and an exported call put them together so
+-- the result beside two lists that were lent: an exported call puts them together so
 abbrev pub besideTwo : {A : Type 0} → Form A (List ℕ × List ℕ) (A × List ℕ × List ℕ)
 besideTwo = record { form = λ r c. (r, c .0, c .1); result = λ v. v .0; rest = λ v. (v .1, v .2); result-is = λ r c. refl; rest-is = λ r c. refl }

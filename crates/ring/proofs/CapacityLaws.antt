@@ -10,7 +10,7 @@ use lib.Pow.{pow-mono}
 use lib.Count.{ones, onesIn}
 use borrow.Author.Tests.{le-leb, lt-leb, leb-true, leb-false, eqb-true, eq-eqb}
 use Rattle.base.specs.Tests.{pick, le-or-lt, both}
-use Rattle.base.specs.Powers.{power-of, power-ones}
+use Rattle.base.proofs.Powers.{power-of, power-ones}
 use Rattle.ring.specs.declared.Capacity.the-variants.{Of, TooLarge}
 use Rattle.ring.specs.Capacity.{smallest, largest, allowedB, twiceOf, doubled, holdingOf, Least}
 

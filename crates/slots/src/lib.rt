@@ -16,12 +16,12 @@ pub struct StageWords {
     pub operation: u64,
     // The job of a push; who pops; the queue that any other operation names.
     pub number: u64,
-    // 0 batch, 1 batch and pop.
+    // 0 batch, 1 batch and pop, until the source's ring is held; from then on the job in hand tells.
     pub kind: u64,
     pub step: u64,
     pub f: u64,
     pub b: u64,
-    // How many jobs: wanted, or seen by a pop.
+    // How many jobs: wanted, or seen by a pop; of a batch before its load of back the limit less one.
     pub n: u64,
     // How many were copied, written or swapped; of a resize the index that is copied next.
     pub i: u64,

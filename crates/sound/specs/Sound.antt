@@ -4,15 +4,12 @@
 -- capacity and its counters at most n.
 use Prim.Native.Nat.{ℕ}
 use mathlib.Core.Bool.{Bool, true, _&&_}
-use mathlib.Core.List.{List}
 use lib.Dec.{leb, ltb}
-use lib.ListN.{getD}
 use Rattle.base.specs.Below.{allBelow}
 use Rattle.index.specs.Index.{spansB}
 use Rattle.ring.specs.declared.Ring.{Ring}
 use Rattle.ring.specs.Capacity.{largest, allowedB}
 use Rattle.core.specs.declared.queue.Queue.{Queue}
-use Rattle.core.specs.Queues.{zeroQueue}
 use Rattle.core.specs.declared.stage.ResizeStage.{ResizeStage}
 use Rattle.core.specs.declared.stage.ResizeStage.the-variants as Z
 use Rattle.core.specs.declared.stage.PushStage.{PushStage}
@@ -61,10 +58,6 @@ ringSound n r = allowedB (r .capacity) && ltb (r .place .0) n
 
 abbrev pub queueSound : ℕ → Queue → Bool
 queueSound n q = ringSound n (q .ring) && spansB (q .back) (q .front) (q .ring .capacity)
-
--- queue k of these
-abbrev pub queueIn : List Queue → ℕ → Queue
-queueIn l k = getD l k zeroQueue
 
 -- the first k queues, of those that a function gives
 abbrev pub queuesSoundOf : ℕ → ℕ → (ℕ → Queue) → Bool

@@ -1,6 +1,7 @@
 // What soundness asks of the counts, of queues and of a stage.
 ghost use mathlib.Core.Path.{_≡_};
-ghost use Rattle.sound.specs.Sound.{countsB, ringSound, queueSound, queueIn, queuesSoundOf};
+ghost use Rattle.core.specs.Queues.{queueIn};
+ghost use Rattle.sound.specs.Sound.{countsB, ringSound, queueSound, queuesSoundOf};
 use core::queue::Queue;
 use core::queue::queue_of;
 use ring::Ring;

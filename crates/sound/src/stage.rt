@@ -23,14 +23,11 @@ fn named_sound(queues: usize, stage: Stage) -> bool
     ensures { λ r. ⌜ r ≡ namedSound queues stage ⌝ }
 {
     match stage {
-        Stage::Idle => true,
-        Stage::Push(_, _) => true,
-        Stage::Pop(_, _) => true,
         Stage::Steal(source, _) => source < queues,
         Stage::Length(queue, _) => queue < queues,
-        Stage::OwnBatch(_) => true,
         Stage::BatchSource(source, _) => source < queues,
         Stage::BatchOwn(source, _) => source < queues,
+        _ => true,
     }
 }
 
@@ -165,14 +162,11 @@ fn numbers_sound(stage: Stage) -> bool
     ensures { λ r. ⌜ r ≡ numbersSound stage ⌝ }
 {
     match stage {
-        Stage::Idle => true,
         Stage::Push(_, at) => push_sound(at),
         Stage::Pop(_, at) => pop_sound(at),
-        Stage::Steal(_, _) => true,
-        Stage::Length(_, _) => true,
-        Stage::OwnBatch(_) => true,
         Stage::BatchSource(_, at) => source_sound(at),
         Stage::BatchOwn(_, at) => own_sound(at),
+        _ => true,
     }
 }
 

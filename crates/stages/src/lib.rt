@@ -13,14 +13,10 @@ pub fn touched(stage: Stage, own: usize) -> usize
     ensures { λ r. ⌜ r ≡ touchedOf stage own ⌝ }
 {
     match stage {
-        Stage::Idle => own,
-        Stage::Push(_, _) => own,
-        Stage::Pop(_, _) => own,
         Stage::Steal(source, _) => source,
         Stage::Length(queue, _) => queue,
-        Stage::OwnBatch(_) => own,
         Stage::BatchSource(source, _) => source,
-        Stage::BatchOwn(_, _) => own,
+        _ => own,
     }
 }
 
@@ -29,13 +25,7 @@ pub fn is_idle(stage: Stage) -> bool
 {
     match stage {
         Stage::Idle => true,
-        Stage::Push(_, _) => false,
-        Stage::Pop(_, _) => false,
-        Stage::Steal(_, _) => false,
-        Stage::Length(_, _) => false,
-        Stage::OwnBatch(_) => false,
-        Stage::BatchSource(_, _) => false,
-        Stage::BatchOwn(_, _) => false,
+        _ => false,
     }
 }
 
@@ -101,13 +91,9 @@ pub fn claims(stage: Stage) -> bool
     ensures { λ r. ⌜ r ≡ claimsB stage ⌝ }
 {
     match stage {
-        Stage::Idle => false,
         Stage::Push(_, at) => push_claims(at),
         Stage::Pop(_, at) => pop_claims(at),
-        Stage::Steal(_, _) => false,
-        Stage::Length(_, _) => false,
-        Stage::OwnBatch(_) => false,
-        Stage::BatchSource(_, _) => false,
         Stage::BatchOwn(_, at) => own_claims(at),
+        _ => false,
     }
 }

@@ -1,3 +1,4 @@
+-- Each arm of `request_of` is its clause of `requestOf`.
 use borrow.Author.Needs.{needs}
 use Rattle.kinds.proofs.request_of.Statement.{statement}
 use Rattle.kinds.proofs.request_of.Tie as tie

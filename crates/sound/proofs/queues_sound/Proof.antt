@@ -3,8 +3,9 @@ use Prim.Native.Nat.{_-_}
 use native.Mathlib.Omega.{arith}
 use mathlib.Core.Path.{ap, _∙_}
 use borrow.Author.Needs.{needs}
-use Rattle.sound.specs.Sound.{queueSound, queueIn}
-use Rattle.sound.proofs.Loops.{AllTo, all-begins, all-stops, all-goes, all-ends}
+use Rattle.core.specs.Queues.{queueIn}
+use Rattle.sound.specs.Sound.{queueSound}
+use Rattle.base.proofs.Loops.{AllTo, all-begins, all-stops, all-goes, all-ends}
 use Rattle.sound.proofs.queues_sound.Statement.{statement}
 use Rattle.sound.proofs.queues_sound.Tie as tie
 

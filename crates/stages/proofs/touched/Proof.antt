@@ -1,16 +1,16 @@
--- Each arm of `touched` is its clause of `touchedOf`.
+-- A steal, a length and a batch at its source touch the queue that they name, every other stage the own one.
+use Prim.Native.Nat.{ℕ}
+use mathlib.Core.List.{List, [], _∷_}
+use mathlib.Core.Path.{_≡_, refl}
 use borrow.Author.Needs.{needs}
+use denote.Enum.Declared.{tagOf}
+use types.Run.{OneOf, miss}
+use Rattle.core.proofs.stage.Stage.{the-type}
+use Rattle.core.specs.declared.stage.Stage.{Stage}
+use Rattle.core.specs.declared.stage.Stage.the-variants.{Idle, Push, Pop, Steal, Length, OwnBatch, BatchSource, BatchOwn}
+use Rattle.stages.specs.Stages.{touchedOf}
 use Rattle.stages.proofs.touched.Statement.{statement}
 use Rattle.stages.proofs.touched.Tie as tie
-
-enum-told : tie.Need-enum-told
-enum-told c = search needs
-
-enum-told-2 : tie.Need-enum-told-2
-enum-told-2 c = search needs
-
-enum-told-3 : tie.Need-enum-told-3
-enum-told-3 c = search needs
 
 enum-known-stage : tie.Need-enum-known-stage
 enum-known-stage c = search needs
@@ -18,14 +18,8 @@ enum-known-stage c = search needs
 enum-known-stage-2 : tie.Need-enum-known-stage-2
 enum-known-stage-2 c = search needs
 
-enum-told-4 : tie.Need-enum-told-4
-enum-told-4 c = search needs
-
 enum-known-stage-3 : tie.Need-enum-known-stage-3
 enum-known-stage-3 c = search needs
-
-enum-told-5 : tie.Need-enum-told-5
-enum-told-5 c = search needs
 
 returns : tie.Need-returns
 returns c = search needs
@@ -36,38 +30,30 @@ returns-2 c = search needs
 returns-3 : tie.Need-returns-3
 returns-3 c = search needs
 
+abbrev the-rest : List ℕ
+the-rest = 0 ∷ 1 ∷ 2 ∷ 5 ∷ 7 ∷ []
+
+at-own : (s : Stage) (own : ℕ) → OneOf the-rest (tagOf the-type s) → own ≡ touchedOf s own
+at-own Idle own h = refl
+at-own (Push job at) own h = refl
+at-own (Pop w at) own h = refl
+at-own (Steal k at) own h = absurd (miss the-rest 3 tt h)
+at-own (Length k at) own h = absurd (miss the-rest 4 tt h)
+at-own (OwnBatch at) own h = refl
+at-own (BatchSource k at) own h = absurd (miss the-rest 6 tt h)
+at-own (BatchOwn k at) own h = refl
+
 returns-4 : tie.Need-returns-4
-returns-4 c = rw (c .before .stage .given .1)
-
-returns-5 : tie.Need-returns-5
-returns-5 c = rw (c .before .stage2 .given .1)
-
-returns-6 : tie.Need-returns-6
-returns-6 c = search needs
-
-returns-7 : tie.Need-returns-7
-returns-7 c = rw (c .before .stage3 .given .1)
-
-returns-8 : tie.Need-returns-8
-returns-8 c = search needs
+returns-4 c = at-own (c .before .args .stage) (c .before .args .own) (c .match .keys4)
 
 pub touched-spec : {M : Type 1} → statement M
 touched-spec =
     tie.close
     (tie.spec
-    enum-told
-    enum-told-2
-    enum-told-3
     enum-known-stage
     enum-known-stage-2
-    enum-told-4
     enum-known-stage-3
-    enum-told-5
     returns
     returns-2
     returns-3
-    returns-4
-    returns-5
-    returns-6
-    returns-7
-    returns-8)
+    returns-4)

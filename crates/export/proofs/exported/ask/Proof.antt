@@ -1,8 +1,8 @@
 -- Words that are no machine are refused; otherwise by what the calls ensure.
 use borrow.Author.Needs.{needs}
-use mathlib.Core.Bool.{true}
+use mathlib.Core.Bool.{true, true≢false}
 use mathlib.Core.Path.{_≡_, sym, ap, _∙_}
-use borrow.Author.Tests.{not-true, not-false}
+use borrow.Author.Tests.{eqb-true, not-true, not-false}
 use Rattle.words.specs.Slices.{machineB}
 use Rattle.export.specs.Exported.{askedWords}
 use Rattle.export.proofs.WordsLaws.{as-many}
@@ -20,7 +20,9 @@ same-length c = search needs
 
 returns : tie.Need-returns
 unfolding askedWords
-returns c = rw (c .no-machine .ensures, ← c .before .before .is-machine .ensures, not-true (c .before .before .is-machine .result) (c .before .if1 .taken))
+returns c =
+    let is-not = sym (c .before .before .is-machine .ensures) ∙ not-true (c .before .before .is-machine .result) (c .before .if1 .taken) in
+    (rw (c .no-machine .ensures, is-not), λ h. absurd (true≢false (sym h ∙ is-not)))
 
 machine-in-requires : tie.Need-machine-in-requires
 machine-in-requires c κs = search needs
@@ -45,7 +47,10 @@ returns-2 c =
     let read = c .before .before .before .before .before .before .before .before .machine-in in
     let at = c .before .before .before .before .before .before .before .before .before .before in
     let is : machineB (at .before .before .before .before .before .args .machine .now) ≡ true = sym (at .before .is-machine .ensures) ∙ not-false _ (at .if1 .left) in
-    rw (ap (λ x. x .0) (left .ensures), ap (λ x. x .1) (left .ensures), as-many _ is, is, ← read .ensures, ← call .ensures)
+    let whole = as-many _ is in (
+      rw (ap (λ x. x .0) (left .ensures .0), ap (λ x. x .1) (left .ensures .0), whole, is, ← read .ensures, ← call .ensures),
+      λ h. rw (← read .ensures, ← call .ensures) (left .ensures .1 (eqb-true _ _ whole)),
+    )
 
 pub ask-spec : {M : Type 1} → statement M
 ask-spec =

@@ -29,10 +29,14 @@ returns c =
     let ask = c .before .before .before .before .ask in
     let request = c .before .before .before .before .before .request-of in
     let kind = c .before .before .before .before .before .before .before .before .before .before .before .kind-of in
-    rw (← kind .ensures, c .before .before .before .before .before .before .before .before .before .known .given .1, ← request .ensures, ← ask .ensures)
+    let known = c .before .before .before .before .before .before .before .before .before .known .given in
+    (rw (← kind .ensures, known .1, ← request .ensures, ← ask .ensures .0), rw (← kind .ensures, known .1, ← request .ensures) (ask .ensures .1))
 
 returns-2 : tie.Need-returns-2
-returns-2 c = rw (← c .before .before .before .kind-of .ensures, c .before .enum-told .given .1)
+returns-2 c =
+    let kind = c .before .before .before .kind-of in
+    let none = c .before .enum-told .given in
+    (rw (← kind .ensures, none .1), rw (← kind .ensures, none .1) tt)
 
 pub call-spec : {M : Type 1} → statement M
 call-spec =

@@ -13,7 +13,9 @@ same-length : tie.Need-same-length
 same-length c = search needs
 
 returns : tie.Need-returns
-returns c = rw (c .answer-words .ensures, c .before .before .before .store .ensures .0)
+returns c =
+    let store = c .before .before .before .store in
+    (rw (c .answer-words .ensures, store .ensures .0), store .ensures .1)
 
 pub leave-spec : {M : Type 1} → statement M
 leave-spec = tie.close (tie.spec store-requires answer-words-requires same-length returns)

@@ -10,7 +10,7 @@ no-machine-requires c κs = search needs
 
 returns : tie.Need-returns
 unfolding setupWords
-returns c = rw (c .no-machine .ensures, ne-eqb _ _ (c .before .if1 .taken))
+returns c = (rw (c .no-machine .ensures, ne-eqb _ _ (c .before .if1 .taken)), λ h. absurd (c .before .if1 .taken h))
 
 flavors-of-requires : tie.Need-flavors-of-requires
 flavors-of-requires c κs = search needs
@@ -31,7 +31,7 @@ returns-2 c =
     let setup = c .before .before .before .before .setup in
     let flavors = c .before .before .before .before .before .flavors-of in
     let fits = eq-eqb _ _ (c .before .before .before .before .before .before .if1 .left) in
-    rw (left .ensures, fits, ← flavors .ensures, ← setup .ensures)
+    (rw (left .ensures .0, fits, ← flavors .ensures, ← setup .ensures), λ h. rw (← flavors .ensures, ← setup .ensures) (left .ensures .1 h))
 
 pub setup-spec : {M : Type 1} → statement M
 setup-spec =

@@ -3,9 +3,9 @@ use Prim.Native.Nat.{_-_}
 use native.Mathlib.Omega.{arith}
 use borrow.Author.Needs.{needs}
 use Rattle.base.specs.Below.{allBelow}
-use Rattle.sound.specs.Sound.{queueIn}
+use Rattle.core.specs.Queues.{queueIn}
 use Rattle.places.specs.Places.{keptIn, apartOf}
-use Rattle.sound.proofs.Loops.{AllTo, all-begins, all-stops, all-goes, all-ends}
+use Rattle.base.proofs.Loops.{AllTo, all-begins, all-stops, all-goes, all-ends}
 use Rattle.places.proofs.apart.all_apart.Statement.{statement}
 use Rattle.places.proofs.apart.all_apart.Tie as tie
 

@@ -2,9 +2,9 @@
 use Prim.Native.Nat.{_-_}
 use native.Mathlib.Omega.{arith}
 use borrow.Author.Needs.{needs}
-use Rattle.sound.specs.Sound.{queueIn}
+use Rattle.core.specs.Queues.{queueIn}
 use Rattle.places.specs.Places.{keptIn, apartOf}
-use Rattle.sound.proofs.Loops.{AllTo, all-begins, all-stops, all-goes, all-ends}
+use Rattle.base.proofs.Loops.{AllTo, all-begins, all-stops, all-goes, all-ends}
 use Rattle.places.proofs.apart.apart_from.Statement.{statement}
 use Rattle.places.proofs.apart.apart_from.Tie as tie
 

@@ -4,8 +4,9 @@ use native.Mathlib.Omega.{arith}
 use mathlib.Core.Path.{_≡_, sym, _∙_}
 use borrow.Author.Needs.{needs}
 use borrow.Author.Tests.{not-true, not-false}
-use Rattle.base.specs.Below.{firstNot, first-here, first-later, first-none}
-use Rattle.sound.specs.Sound.{queueIn}
+use Rattle.base.specs.Below.{firstNot}
+use Rattle.base.proofs.BelowLaws.{first-here, first-later, first-none}
+use Rattle.core.specs.Queues.{queueIn}
 use Rattle.places.specs.Places.{keptIn, usedOf}
 use Rattle.places.proofs.used.free_place.Statement.{statement}
 use Rattle.places.proofs.used.free_place.Tie as tie

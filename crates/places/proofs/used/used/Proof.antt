@@ -4,8 +4,9 @@ use native.Mathlib.Omega.{arith}
 use mathlib.Core.Bool.{false}
 use mathlib.Core.Path.{_≡_, sym, _∙_}
 use borrow.Author.Needs.{needs}
-use Rattle.base.specs.Below.{anyBelow, any-none, any-next, any-at}
-use Rattle.sound.specs.Sound.{queueIn}
+use Rattle.base.specs.Below.{anyBelow}
+use Rattle.base.proofs.BelowLaws.{any-none, any-next, any-at}
+use Rattle.core.specs.Queues.{queueIn}
 use Rattle.places.specs.Places.{keptIn, usedByOf}
 use Rattle.places.proofs.used.used.Statement.{statement}
 use Rattle.places.proofs.used.used.Tie as tie

@@ -1,3 +1,4 @@
+-- The place is one more, wrapped, as the definition has it.
 use borrow.Author.Needs.{needs}
 use Rattle.reading.proofs.Reader.after.Statement.{statement}
 use Rattle.reading.proofs.Reader.after.Tie as tie

@@ -1,3 +1,4 @@
+-- Each arm of `end` is its clause of `endOf`.
 use borrow.Author.Needs.{needs}
 use Rattle.reading.proofs.Reader.end.Statement.{statement}
 use Rattle.reading.proofs.Reader.end.Tie as tie

@@ -1,10 +1,17 @@
--- Each arm of `numbers_sound` is its clause of `numbersSound`, by what its calls ensure.
+-- The stages that remember such a number ask what their operation asks, by what the calls ensure; the others ask nothing.
+use Prim.Native.Nat.{ℕ}
+use mathlib.Core.Bool.{true}
+use mathlib.Core.List.{List, [], _∷_}
+use mathlib.Core.Path.{_≡_, refl}
 use borrow.Author.Needs.{needs}
+use denote.Enum.Declared.{tagOf}
+use types.Run.{OneOf, miss}
+use Rattle.core.proofs.stage.Stage.{the-type}
+use Rattle.core.specs.declared.stage.Stage.{Stage}
+use Rattle.core.specs.declared.stage.Stage.the-variants.{Idle, Push, Pop, Steal, Length, OwnBatch, BatchSource, BatchOwn}
+use Rattle.sound.specs.Sound.{numbersSound}
 use Rattle.sound.proofs.stage.numbers_sound.Statement.{statement}
 use Rattle.sound.proofs.stage.numbers_sound.Tie as tie
-
-enum-told : tie.Need-enum-told
-enum-told c = search needs
 
 enum-known-stage : tie.Need-enum-known-stage
 enum-known-stage c = search needs
@@ -17,15 +24,6 @@ enum-known-stage-2 c = search needs
 
 pop-sound-requires : tie.Need-pop-sound-requires
 pop-sound-requires c κs = search needs
-
-enum-told-2 : tie.Need-enum-told-2
-enum-told-2 c = search needs
-
-enum-told-3 : tie.Need-enum-told-3
-enum-told-3 c = search needs
-
-enum-told-4 : tie.Need-enum-told-4
-enum-told-4 c = search needs
 
 enum-known-stage-3 : tie.Need-enum-known-stage-3
 enum-known-stage-3 c = search needs
@@ -40,41 +38,41 @@ own-sound-requires : tie.Need-own-sound-requires
 own-sound-requires c κs = search needs
 
 returns : tie.Need-returns
-returns c = search needs
+returns c = rw (c .before .before .stage .given .1, c .push-sound .ensures)
 
 returns-2 : tie.Need-returns-2
-returns-2 c = rw (c .before .before .stage .given .1, c .push-sound .ensures)
+returns-2 c = rw (c .before .before .stage2 .given .1, c .pop-sound .ensures)
 
 returns-3 : tie.Need-returns-3
-returns-3 c = rw (c .before .before .stage2 .given .1, c .pop-sound .ensures)
+returns-3 c = rw (c .before .before .stage3 .given .1, c .source-sound .ensures)
 
 returns-4 : tie.Need-returns-4
-returns-4 c = search needs
+returns-4 c = rw (c .before .before .stage4 .given .1, c .own-sound .ensures)
+
+abbrev the-rest : List ℕ
+the-rest = 0 ∷ 3 ∷ 4 ∷ 5 ∷ []
+
+unnumbered : (s : Stage) → OneOf the-rest (tagOf the-type s) → true ≡ numbersSound s
+unnumbered Idle h = refl
+unnumbered (Push job at) h = absurd (miss the-rest 1 tt h)
+unnumbered (Pop w at) h = absurd (miss the-rest 2 tt h)
+unnumbered (Steal k at) h = refl
+unnumbered (Length k at) h = refl
+unnumbered (OwnBatch at) h = refl
+unnumbered (BatchSource k at) h = absurd (miss the-rest 6 tt h)
+unnumbered (BatchOwn k at) h = absurd (miss the-rest 7 tt h)
 
 returns-5 : tie.Need-returns-5
-returns-5 c = search needs
-
-returns-6 : tie.Need-returns-6
-returns-6 c = search needs
-
-returns-7 : tie.Need-returns-7
-returns-7 c = rw (c .before .before .stage3 .given .1, c .source-sound .ensures)
-
-returns-8 : tie.Need-returns-8
-returns-8 c = rw (c .before .before .stage4 .given .1, c .own-sound .ensures)
+returns-5 c = unnumbered (c .before .args .stage) (c .match .keys5)
 
 pub numbers-sound-spec : {M : Type 1} → statement M
 numbers-sound-spec =
     tie.close
     (tie.spec
-    enum-told
     enum-known-stage
     push-sound-requires
     enum-known-stage-2
     pop-sound-requires
-    enum-told-2
-    enum-told-3
-    enum-told-4
     enum-known-stage-3
     source-sound-requires
     enum-known-stage-4
@@ -83,7 +81,4 @@ numbers-sound-spec =
     returns-2
     returns-3
     returns-4
-    returns-5
-    returns-6
-    returns-7
-    returns-8)
+    returns-5)

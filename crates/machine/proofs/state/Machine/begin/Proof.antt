@@ -1,6 +1,6 @@
--- The four gates of `begin` are those of `beginOf`; then each arm is its clause of `passing`.
-use Rattle.machine.specs.Begin.{beginOf}
+-- The tests of `begin` are those of `beginOf`; then each arm is its clause of `passing`.
 use borrow.Author.Needs.{needs}
+use Rattle.machine.specs.Begin.{beginOf}
 use Rattle.machine.proofs.state.Machine.begin.Statement.{statement}
 use Rattle.machine.proofs.state.Machine.begin.Tie as tie
 
@@ -28,4 +28,13 @@ unfolding beginOf
 returns-2 c = rw (c .refused .ensures, ← c .before .before .before .before .may-begin .ensures, c .before .before .refusal .given .1)
 
 pub begin-spec : {M : Type 1} → statement M
-begin-spec = tie.close (tie.spec may-begin-requires enum-told begun-requires returns enum-known-refusal refused-requires returns-2)
+begin-spec =
+    tie.close
+    (tie.spec
+    may-begin-requires
+    enum-told
+    begun-requires
+    returns
+    enum-known-refusal
+    refused-requires
+    returns-2)

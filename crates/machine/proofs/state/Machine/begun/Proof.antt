@@ -1,4 +1,4 @@
--- `begun` is the definition `begun`, by what its calls ensure.
+-- `begun` is the machine of the definition `begun`, by what its calls ensure.
 use borrow.Author.Needs.{needs}
 use Rattle.machine.proofs.state.Machine.begun.Statement.{statement}
 use Rattle.machine.proofs.state.Machine.begun.Tie as tie
@@ -19,4 +19,6 @@ returns : tie.Need-returns
 returns c = rw (c .with-stage .ensures, c .before .first-stage .ensures, c .before .before .queue .ensures, c .before .before .before .own-queue .ensures)
 
 pub begun-spec : {M : Type 1} → statement M
-begun-spec = tie.close (tie.spec own-queue-requires queue-requires first-stage-requires with-stage-requires returns)
+begun-spec =
+    tie.close
+    (tie.spec own-queue-requires queue-requires first-stage-requires with-stage-requires returns)

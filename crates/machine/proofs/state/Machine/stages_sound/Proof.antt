@@ -4,7 +4,7 @@ use native.Mathlib.Omega.{arith}
 use borrow.Author.Needs.{needs}
 use Rattle.sound.specs.Sound.{stageSound}
 use Rattle.machine.specs.State.{stageAt}
-use Rattle.sound.proofs.Loops.{AllTo, all-begins, all-stops, all-goes, all-ends}
+use Rattle.base.proofs.Loops.{AllTo, all-begins, all-stops, all-goes, all-ends}
 use Rattle.machine.proofs.state.Machine.stages_sound.Statement.{statement}
 use Rattle.machine.proofs.state.Machine.stages_sound.Tie as tie
 

@@ -1,6 +1,6 @@
--- The tests are the definition's, in its order: where they find nothing the step is run, and otherwise all is as it was.
-use Rattle.machine.specs.Step.{stepOf}
+-- The tests are the definition's, in its order: where they find nothing the step is made and stored, and otherwise all is as it was.
 use borrow.Author.Needs.{needs}
+use Rattle.machine.specs.Step.{stepOf}
 use Rattle.machine.proofs.state.Machine.step.Statement.{statement}
 use Rattle.machine.proofs.state.Machine.step.Tie as tie
 
@@ -10,8 +10,20 @@ may-step-requires c κs = search needs
 enum-told : tie.Need-enum-told
 enum-told c = search needs
 
-ran-requires : tie.Need-ran-requires
-ran-requires c κs = search needs
+touches-requires : tie.Need-touches-requires
+touches-requires c κs = search needs
+
+claim-requires : tie.Need-claim-requires
+claim-requires c κs = search needs
+
+advanced-requires : tie.Need-advanced-requires
+advanced-requires c κs = search needs
+
+number-after-requires : tie.Need-number-after-requires
+number-after-requires c κs = search needs
+
+stored-requires : tie.Need-stored-requires
+stored-requires c κs = search needs
 
 same-length : tie.Need-same-length
 same-length c = search needs
@@ -19,8 +31,19 @@ same-length c = search needs
 returns : tie.Need-returns
 unfolding stepOf
 returns c =
-    let r = c .before .before in
-    rw (r .ran .ensures, ← r .before .before .before .before .may-step .ensures, r .before .before .enum-told .given .1)
+    let advanced = c .before .before .before .before .advanced in
+    let claim = c .before .before .before .before .before .before .claim in
+    let touches = c .before .before .before .before .before .before .before .touches in
+    let tested = c .before .before .before .before .before .before .before .before in
+    rw (
+      c .stored .ensures,
+      c .before .number-after .ensures,
+      ← tested .before .before .may-step .ensures,
+      tested .enum-told .given .1,
+      ← claim .ensures,
+      ← advanced .ensures,
+      ← touches .ensures,
+    )
 
 enum-known-refusal : tie.Need-enum-known-refusal
 enum-known-refusal c = search needs
@@ -33,4 +56,18 @@ unfolding stepOf
 returns-2 c = rw (c .refused .ensures, ← c .before .before .before .before .may-step .ensures, c .before .before .refusal .given .1)
 
 pub step-spec : {M : Type 1} → statement M
-step-spec = tie.close (tie.spec may-step-requires enum-told ran-requires same-length returns enum-known-refusal refused-requires returns-2)
+step-spec =
+    tie.close
+    (tie.spec
+    may-step-requires
+    enum-told
+    touches-requires
+    claim-requires
+    advanced-requires
+    number-after-requires
+    stored-requires
+    same-length
+    returns
+    enum-known-refusal
+    refused-requires
+    returns-2)

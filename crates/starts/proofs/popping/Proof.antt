@@ -1,7 +1,7 @@
 -- Each arm is its clause of the definition `popping`.
 use borrow.Author.Needs.{needs}
-use Rattle.machine.proofs.begin.popping.Statement.{statement}
-use Rattle.machine.proofs.begin.popping.Tie as tie
+use Rattle.starts.proofs.popping.Statement.{statement}
+use Rattle.starts.proofs.popping.Tie as tie
 
 enum-told : tie.Need-enum-told
 enum-told c = search needs

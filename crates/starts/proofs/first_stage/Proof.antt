@@ -1,8 +1,8 @@
 -- Each arm of `first_stage` is its clause of `firstStage`, each test the definition's own, by what its calls ensure.
 use borrow.Author.Needs.{needs}
 use borrow.Author.Tests.{eq-eqb, ne-eqb}
-use Rattle.machine.proofs.begin.first_stage.Statement.{statement}
-use Rattle.machine.proofs.begin.first_stage.Tie as tie
+use Rattle.starts.proofs.first_stage.Statement.{statement}
+use Rattle.starts.proofs.first_stage.Tie as tie
 
 enum-known-operation : tie.Need-enum-known-operation
 enum-known-operation c = search needs

@@ -1,7 +1,7 @@
 -- `first_batch` is the first stage that its contract states, by what its call ensures.
 use borrow.Author.Needs.{needs}
-use Rattle.machine.proofs.begin.first_batch.Statement.{statement}
-use Rattle.machine.proofs.begin.first_batch.Tie as tie
+use Rattle.starts.proofs.first_batch.Statement.{statement}
+use Rattle.starts.proofs.first_batch.Tie as tie
 
 less-one-requires : tie.Need-less-one-requires
 less-one-requires c κs = search needs

@@ -1,7 +1,7 @@
 -- `first_pop` is the first stage that its contract states, by what its call ensures.
 use borrow.Author.Needs.{needs}
-use Rattle.machine.proofs.begin.first_pop.Statement.{statement}
-use Rattle.machine.proofs.begin.first_pop.Tie as tie
+use Rattle.starts.proofs.first_pop.Statement.{statement}
+use Rattle.starts.proofs.first_pop.Tie as tie
 
 popping-requires : tie.Need-popping-requires
 popping-requires c κs = search needs

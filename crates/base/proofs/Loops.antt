@@ -4,7 +4,8 @@ use native.Mathlib.Omega.{arith}
 use mathlib.Core.Bool.{Bool, true, false, not}
 use mathlib.Core.Path.{_≡_, sym, _∙_}
 use borrow.Author.Tests.{not-true, not-false}
-use Rattle.base.specs.Below.{allBelow, all-none, all-next, all-not}
+use Rattle.base.specs.Below.{allBelow}
+use Rattle.base.proofs.BelowLaws.{all-none, all-next, all-not}
 
 -- the invariant, at i: until now f held
 abbrev pub AllTo : ℕ → (ℕ → Bool) → ℕ → Type 0

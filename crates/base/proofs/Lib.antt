@@ -1,0 +1,3 @@
+pub mod Powers
+pub mod BelowLaws
+pub mod Loops
