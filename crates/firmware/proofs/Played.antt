@@ -2,14 +2,14 @@
 -- job is accepted once, and stands in the queue.
 use mathlib.Core.Path.{_≡_, refl, subst}
 use mathlib.Core.List.{List, [], _∷_}
-use Prim.Native.Nat.{ℕ, _+_, _≤_}
+use Prim.Native.Nat.{ℕ, _+_, _-_, _≤_}
 use native.Mathlib.Omega.{arith}
 use lib.Count.{ones, onesIn}
 use lib.ListN.{replicate}
 use Rattle.base.specs.Below.{allBelow}
 use Rattle.index.specs.Index.{wrap, plusOf, differenceOf, fullB, spansB, cellOf}
 use Rattle.ring.specs.Capacity.{allowedB}
-use Rattle.cells.specs.Cells.{standsB, spot, writtenOf}
+use Rattle.cells.specs.Cells.{placeCells, standsB, spot, writtenOf}
 use Rattle.kinds.specs.Kinds.{kindOf}
 use Rattle.machine.specs.Sound.{soundB}
 use Rattle.machine.specs.Setup.{setupOf}
@@ -29,9 +29,9 @@ abbrev words : ℕ → ℕ → ℕ → ℕ → List ℕ
 words back operation number step =
     1 ∷ 1 ∷ 1 ∷ 0 ∷ 0 ∷ back ∷ 0 ∷ 0 ∷ 64 ∷ 0 ∷ 0 ∷ 0 ∷ 0 ∷ 0 ∷ 0 ∷ 0 ∷ 0 ∷ 0 ∷ 0 ∷ 0 ∷ 0 ∷ 0 ∷ 0 ∷ 0 ∷ 0 ∷ 0 ∷ 0 ∷ operation ∷ number ∷ 0 ∷ step ∷ replicate 60 0
 
--- the first cell, and 255 others
+-- a place with this in its first cell
 abbrev cells : ℕ → List ℕ
-cells v = v ∷ replicate 255 0
+cells v = v ∷ replicate (placeCells - 1) 0
 
 abbrev working : List ℕ
 working = 0 ∷ 0 ∷ 0 ∷ 0 ∷ []
