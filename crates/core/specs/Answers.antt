@@ -1,7 +1,7 @@
 -- The number and the values of every answer.
 use Prim.Native.Nat.{ℕ, _^_}
 use Rattle.index.specs.Index.{modZ}
-use Rattle.steal.specs.declared.Steal.the-variants.{Empty, Success, Retry}
+use Rattle.steal.specs.Steal.{numberOf, valueOf}
 use Rattle.core.specs.declared.answer.Refusal.{Refusal}
 use Rattle.core.specs.declared.answer.Refusal.the-variants.{PoolLength, Counts, Unsound, NoSuch, Busy, Idle, NoLimit}
 use Rattle.core.specs.declared.answer.Shortage.{Shortage}
@@ -38,9 +38,8 @@ told Working = says 0 0 0 0
 told Done = says 1 0 0 0
 told (Job job) = says 2 0 job 0
 told Nothing = says 3 0 0 0
-told (Stolen Empty) = says 4 0 0 0
-told (Stolen (Success job)) = says 5 0 job 0
-told (Stolen Retry) = says 6 0 0 0
+-- 4 Empty, 5 Success with its job, 6 Retry
+told (Stolen s) = says (numberOf s) 0 (valueOf s) 0
 told Moved = says 7 0 0 0
 told (Length d n) = says 8 0 (modZ d (2 ^ 64)) n
 told (GaveUp s) = says 9 (shortageOf s) 0 0

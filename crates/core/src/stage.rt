@@ -19,26 +19,26 @@ pub enum PushStage {
     StoreBack { b: Index },
 }
 
-// seen: the difference first seen, which is above 0 there.
+// others: the difference first seen, which is above 0 there, less one.
 pub enum FifoPopStage {
     LoadBack,
     LoadFront { b: Index },
-    FetchAdd { b: Index, seen: u64 },
+    FetchAdd { b: Index, others: u64 },
     RestoreFront { f: Index },
-    Read { f: Index, seen: u64 },
+    Read { f: Index, others: u64 },
 }
 
-// left: the difference b - 1 - f, which is above 0 there.
+// others: the difference b - 1 - f, which is above 0 there, less one. The last job is at b - 1, and so is the front that was loaded.
 pub enum LifoPopStage {
     LoadBack,
     LoadFront { b: Index },
     StoreBack { b: Index },
     ReloadFront { b: Index },
     RestoreBack { b: Index },
-    ReadLast { b: Index, f: Index },
-    Exchange { b: Index, f: Index, job: u64 },
+    ReadLast { b: Index },
+    Exchange { b: Index, job: u64 },
     RestoreBackWon { b: Index, job: u64 },
-    Read { b: Index, left: u64 },
+    Read { b: Index, others: u64 },
 }
 
 pub enum PopStage {

@@ -41,8 +41,8 @@ module _ (R : ℕ → ℕ → Ring) (k : ℕ) (new : Ring) where
         go (some v) = rw (landing-agree fo (withCount (withHand h (some v)) i))
 
     pub turn-agree : (h : Haul) (i : ℕ) (q : Queue)
-        → ofBatch k (H.turning (flavorOf fo) (haulFor (R k) h) (H.turnOf (h .n) i) (queueFor fl (R j) q)) ≡ outFor fl R j new (turning fo k h i q)
-    turn-agree h i q = either (leb (h .n) i) (λ t. rw (t, stop-agree h (h .n) q)) (λ t. rw t)
+        → ofBatch k (H.turning (flavorOf fo) (haulFor (R k) h) i (queueFor fl (R j) q)) ≡ outFor fl R j new (turning fo k h i q)
+    turn-agree h i q = either (leb (h .n) i) (λ t. rw (t, stop-agree h i q)) (λ t. rw t)
 
 -- the first of the n jobs
 pub first-ix : (j : InHand) (f i : ℕ) → f + inHand j + i < 2 ^ 62 + 2 → plusOf (H.firstOf (handFor j) (ix f)) i ≡ ix (f + inHand j + i)

@@ -1,16 +1,17 @@
 -- The tables agree: the steps of a batch on the own queue. k is the source, t the own queue.
-use mathlib.Core.Path.{_≡_, refl}
+use mathlib.Core.Path.{_≡_, refl, ap, _∙_}
 use mathlib.Core.Bool.{true, false}
 use mathlib.Core.Logic.{⊎-elim}
 use mathlib.Core.List.{List}
 use Prim.Native.Nat.{ℕ, suc, _+_, _-_, _≤_, _<_}
 use native.Mathlib.Omega.{arith}
+use native.Mathlib.Nat.{mod-eq-of-lt}
 use native.Mathlib.Numerals.{add-one}
 use lib.Dec.{leb}
 use borrow.Author.Tests.{le-leb, lt-leb}
 use Rattle.base.specs.Tests.{le-or-lt}
 use Rattle.index.specs.Index.{plusOf}
-use Rattle.index.proofs.Laws.{plus-is, length-is}
+use Rattle.index.proofs.Laws.{plus-is, minus-is, length-is}
 use Rattle.ring.specs.declared.Ring.{Ring}
 use Rattle.ring.specs.Capacity.{largest}
 use Rattle.ring.proofs.CapacityLaws.{holding-least, holding-over}
@@ -59,13 +60,24 @@ module _ (fl : Flavour) (R : ℕ → ℕ → Ring) (k t : ℕ) (new : Ring) (q :
     own-ix : (h : Haul) (i : ℕ) → HaulOk h q → i ≤ h .n → plusOf (ix (h .b)) i ≡ ix (h .b + i)
     own-ix h i r l = let f = w .front in let c = w .room in plus-is (h .b) i (omega arith)
 
+    mirror-ix : (h : Haul) (i : ℕ) → HaulOk h q → i < h .n → H.mirrorOf (haulFor (R k) h) i ≡ ix (h .b + (h .n - suc i))
+    mirror-ix h i r l =
+        let f = w .front in
+        let c = w .room in
+        rw (plus-is (h .b) (h .n) (omega arith), minus-is (h .b + h .n) 1 (omega arith) (omega arith), minus-is (h .b + h .n - 1) i (omega arith) (omega arith))
+        (ap ix (omega arith))
+
+    -- a count of jobs that were written does not wrap
+    count-is : (h : Haul) (i : ℕ) → HaulOk h q → i < h .n → H.writtenAfter i ≡ suc i
+    count-is h i r l = let f = w .front in let c = w .room in mod-eq-of-lt (omega arith) ∙ add-one i
+
     slot-ix : (fo : Flavour) (h : Haul) (i : ℕ) → HaulOk h q → i < h .n → H.slotOf (flavorOf fo) (haulFor (R k) h) i ≡ ix (slot fo h i)
     slot-ix fifo h i r l = own-ix h i r (omega arith)
-    slot-ix lifo h i r l = own-ix h (h .n - suc i) r (omega arith)
+    slot-ix lifo h i r l = mirror-ix h i r l
 
     -- the own queue t is touched, and the haul is from k
     turn-own : (h : Haul) (i : ℕ) (r : Queue)
-        → ofBatch k (H.turning (flavorOf fl) (haulFor (R k) h) (H.turnOf (h .n) i) (queueFor fl (R t) r)) ≡ outFor fl R t new (turning fl k h i r)
+        → ofBatch k (H.turning (flavorOf fl) (haulFor (R k) h) i (queueFor fl (R t) r)) ≡ outFor fl R t new (turning fl k h i r)
     turn-own h i r = turn-agree R k new t fl fl h i r
 
     pub own-agree : (p : OwnStage) → Ok fl (own k p) q → OwnNames (R t) new gm gc p q → Same p (ownStep (offerFor gm (own k p) q) fl k p q)
@@ -94,13 +106,13 @@ module _ (fl : Flavour) (R : ℕ → ℕ → Ring) (k t : ℕ) (new : Ring) (q :
         rw (slot-ix fl j i (o .stage .0) (o .stage .1), add-one, copy-agree R k new j (suc i))
     own-agree (one-write j i v) o h =
         let l = o .stage .1 in
-        rw (own-ix j i (o .stage .0) (omega arith), add-one, turn-own j (suc i) (setCell q (j .b + i) v))
+        rw (own-ix j i (o .stage .0) (omega arith), count-is j i (o .stage .0) l, turn-own j (suc i) (setCell q (j .b + i) v))
     own-agree (swap-near j x) o h = let l = o .stage .1 in rw (own-ix j x (o .stage .0) (omega arith), w .reads (j .b + x))
     own-agree (swap-far j x near) o h =
-        let l = o .stage .1 in rw (own-ix j (j .n - suc x) (o .stage .0) (omega arith), w .reads (j .b + (j .n - suc x)))
+        let l = o .stage .1 in rw (mirror-ix j x (o .stage .0) (omega arith), w .reads (j .b + (j .n - suc x)))
     own-agree (swap-put j x near far) o h = let l = o .stage .1 in rw (own-ix j x (o .stage .0) (omega arith))
     own-agree (swap-last j x near) o h =
-        let l = o .stage .1 in rw (own-ix j (j .n - suc x) (o .stage .0) (omega arith), add-one, swap-agree R k new j (suc x))
+        let l = o .stage .1 in rw (mirror-ix j x (o .stage .0) (omega arith), add-one, swap-agree R k new j (suc x))
     own-agree (own-store j) o h = stored (j .hand) refl (own-ix j (j .n) (o .stage) (omega arith))
       where
         stored : (a : InHand) → j .hand ≡ a → plusOf (ix (j .b)) (j .n) ≡ ix (j .b + j .n)

@@ -2,7 +2,7 @@
 use mathlib.Core.Path.{_≡_, refl}
 use mathlib.Core.Bool.{Bool, true, false, _&&_}
 use mathlib.Core.List.{List}
-use Prim.Native.Nat.{ℕ, suc, _-_, _/_}
+use Prim.Native.Nat.{ℕ, suc, _+_, _-_, _/_}
 use native.Mathlib.Omega.{arith}
 use lib.Dec.{leb, ltb, eqb}
 use borrow.Author.Tests.{le-leb, lt-ltb, leb-true, ltb-true}
@@ -62,7 +62,7 @@ module _ (fl : Flavour) (R : ℕ → ℕ → Ring) (k : ℕ) (new : Ring) (q : Q
             → Same (fifoPop a (fifo-front b)) (fifoStep (offerFor gm (fifoPop a (fifo-front b)) q) a (fifo-front b) q)
         said byPop e t = rw (e, t)
         said byBatch e t = rw (e, t)
-    fifo-agree a (fifo-add b d) o =
+    fifo-agree a (fifo-add b others) o =
         let sf = w .front in
         let sb = w .back in
         let e = o .stage .1 .0 in
@@ -71,21 +71,21 @@ module _ (fl : Flavour) (R : ℕ → ℕ → Ring) (k : ℕ) (new : Ring) (q : Q
         either (ltb b (suc (q .front))) (λ t. rw (n, t₁, t)) (λ t. rw (n, t₁, t))
     fifo-agree byPop (fifo-restore f) o = refl
     fifo-agree byBatch (fifo-restore f) o = refl
-    fifo-agree a (fifo-read f d) o =
+    fifo-agree a (fifo-read f others) o =
         let c : ℕ = R k (q .ring) .capacity in
         let ca : c ≡ cap q = w .capacity in
-        let few : Bool = ltb smallest c && leb d (c / 4) in
+        let few : Bool = ltb smallest c && leb (others + 1) (c / 4) in
         either few
-        (λ t. (let z = both (ltb smallest c) (leb d (c / 4)) t in
+        (λ t. (let z = both (ltb smallest c) (leb (others + 1) (c / 4)) t in
         let l = ltb-true smallest c (z .0) in
-        let m = leb-true d (c / 4) (z .1) in
+        let m = leb-true (others + 1) (c / 4) (z .1) in
         let u : ltb 0 (c / 2) ≡ true = lt-ltb 0 (c / 2) (omega arith) in
-        let x : leb d (c / 2) ≡ true = le-leb d (c / 2) (omega arith) in
+        let x : leb (suc others) (c / 2) ≡ true = le-leb (suc others) (c / 2) (omega arith) in
         rw (w .reads f, ← ca, t, u, x)))
         (λ t. done a ca t)
       where
-        done : (a : Popper) → R k (q .ring) .capacity ≡ cap q → (ltb smallest (R k (q .ring) .capacity) && leb d (R k (q .ring) .capacity / 4)) ≡ false
-            → Same (fifoPop a (fifo-read f d)) (fifoStep (offerFor gm (fifoPop a (fifo-read f d)) q) a (fifo-read f d) q)
+        done : (a : Popper) → R k (q .ring) .capacity ≡ cap q → (ltb smallest (R k (q .ring) .capacity) && leb (others + 1) (R k (q .ring) .capacity / 4)) ≡ false
+            → Same (fifoPop a (fifo-read f others)) (fifoStep (offerFor gm (fifoPop a (fifo-read f others)) q) a (fifo-read f others) q)
         done byPop ca t = rw (w .reads f, ← ca, t)
         done byBatch ca t = rw (w .reads f, ← ca, t)
 
@@ -119,34 +119,35 @@ module _ (fl : Flavour) (R : ℕ → ℕ → Ring) (k : ℕ) (new : Ring) (q : Q
         (λ t. either (leb (b - 1) (q .front)) (λ u. rw (m, t₁, t, t₂, u)) (λ u. rw (m, t₁, t, t₂, u, t₃)))
     lifo-agree byPop (lifo-restore b) o = refl
     lifo-agree byBatch (lifo-restore b) o = refl
-    lifo-agree a (lifo-last b f) o =
+    lifo-agree a (lifo-last b) o =
         let sb = w .back in let e = o .stage .1 in rw (minus-is b 1 (omega arith) (omega arith), w .reads (b - 1))
-    lifo-agree a (lifo-exchange b f v) o =
-        let sf = w .front in
+    lifo-agree a (lifo-exchange b v) o =
+        let sb = w .back in
         let e = o .stage .1 in
-        let n = next-ix f (omega arith) in
-        let s = same-is (q .front) f in
-        either (eqb (q .front) f) (λ t. rw (n, s, t)) (λ t. rw (n, s, t))
+        let m = minus-is b 1 (omega arith) (omega arith) in
+        let n = next-ix (b - 1) (omega arith) in
+        let s = same-is (q .front) (b - 1) in
+        either (eqb (q .front) (b - 1)) (λ t. rw (m, n, s, t)) (λ t. rw (m, n, s, t))
     lifo-agree byPop (lifo-won b v) o = refl
     lifo-agree byBatch (lifo-won b v) o = refl
-    lifo-agree a (lifo-read b d) o =
+    lifo-agree a (lifo-read b others) o =
         let sb = w .back in
         let e = o .stage .1 in
         let c : ℕ = R k (q .ring) .capacity in
         let ca : c ≡ cap q = w .capacity in
         let m = minus-is b 1 (omega arith) (omega arith) in
-        let few : Bool = ltb smallest c && ltb d (c / 4) in
+        let few : Bool = ltb smallest c && ltb (others + 1) (c / 4) in
         either few
-        (λ t. (let z = both (ltb smallest c) (ltb d (c / 4)) t in
+        (λ t. (let z = both (ltb smallest c) (ltb (others + 1) (c / 4)) t in
         let l = ltb-true smallest c (z .0) in
-        let n = ltb-true d (c / 4) (z .1) in
+        let n = ltb-true (others + 1) (c / 4) (z .1) in
         let u : ltb 0 (c / 2) ≡ true = lt-ltb 0 (c / 2) (omega arith) in
-        let x : leb d (c / 2) ≡ true = le-leb d (c / 2) (omega arith) in
+        let x : leb (suc others) (c / 2) ≡ true = le-leb (suc others) (c / 2) (omega arith) in
         rw (m, w .reads (b - 1), ← ca, t, u, x)))
         (λ t. done a m ca t)
       where
         done : (a : Popper) → minusOf (ix b) 1 ≡ ix (b - 1) → R k (q .ring) .capacity ≡ cap q
-            → (ltb smallest (R k (q .ring) .capacity) && ltb d (R k (q .ring) .capacity / 4)) ≡ false
-            → Same (lifoPop a (lifo-read b d)) (lifoStep (offerFor gm (lifoPop a (lifo-read b d)) q) a (lifo-read b d) q)
+            → (ltb smallest (R k (q .ring) .capacity) && ltb (others + 1) (R k (q .ring) .capacity / 4)) ≡ false
+            → Same (lifoPop a (lifo-read b others)) (lifoStep (offerFor gm (lifoPop a (lifo-read b others)) q) a (lifo-read b others) q)
         done byPop m ca t = rw (m, w .reads (b - 1), ← ca, t)
         done byBatch m ca t = rw (m, w .reads (b - 1), ← ca, t)

@@ -115,9 +115,9 @@ module _ (new : Ring) (q : Queue) (ca : allowedB (cap q) ≡ true) (gm : Claim) 
   unfolding fifoStep
   fifo-fine w fifo-back = tt
   fifo-fine w (fifo-front b) = by-test Good (leb b (q .front)) _ _ (λ t. tt) (λ t. tt)
-  fifo-fine w (fifo-add b d) = by-test (λ (x : Stage). StageFits (new .capacity) x) (ltb b (suc (q .front))) _ _ (λ t. tt) (λ t. tt)
+  fifo-fine w (fifo-add b others) = by-test (λ (x : Stage). StageFits (new .capacity) x) (ltb b (suc (q .front))) _ _ (λ t. tt) (λ t. tt)
   fifo-fine w (fifo-restore f) = tt
-  fifo-fine w (fifo-read f d) = reading-fine w (ltb smallest (cap q)) (leb d (cap q / 4)) d (at q f) (half-fine true)
+  fifo-fine w (fifo-read f others) = reading-fine w (ltb smallest (cap q)) (leb (others + 1) (cap q / 4)) (suc others) (at q f) (half-fine true)
 
   lifo-fine : (w : Popper) (p : LifoPopStage) → Good (lifoStep (offerFor gm (lifoPop w p) q) w p q)
   unfolding lifoStep
@@ -128,10 +128,10 @@ module _ (new : Ring) (q : Queue) (ca : allowedB (cap q) ≡ true) (gm : Claim) 
       by-test (λ (x : Stage). StageFits (new .capacity) x) (ltb (b - 1) (q .front)) _ _ (λ t. tt)
       (λ t. by-test (λ (x : Stage). StageFits (new .capacity) x) (leb (b - 1) (q .front)) _ _ (λ u. tt) (λ u. tt))
   lifo-fine w (lifo-restore b) = tt
-  lifo-fine w (lifo-last b f) = tt
-  lifo-fine w (lifo-exchange b f v) = by-test Good (eqb (q .front) f) _ _ (λ t. tt) (λ t. tt)
+  lifo-fine w (lifo-last b) = tt
+  lifo-fine w (lifo-exchange b v) = by-test Good (eqb (q .front) (b - 1)) _ _ (λ t. tt) (λ t. tt)
   lifo-fine w (lifo-won b v) = tt
-  lifo-fine w (lifo-read b d) = reading-fine w (ltb smallest (cap q)) (ltb d (cap q / 4)) d (at q (b - 1)) (half-fine true)
+  lifo-fine w (lifo-read b others) = reading-fine w (ltb smallest (cap q)) (ltb (others + 1) (cap q / 4)) (suc others) (at q (b - 1)) (half-fine true)
 
   holding-fine : (x : ℕ) → 0 < x → x ≤ sizeOf (holdingOf x) → allowedB (sizeOf (holdingOf x)) ≡ true
   holding-fine x p h = ⊎-elim below above (le-or-lt x largest)
@@ -158,7 +158,7 @@ module _ (new : Ring) (q : Queue) (ca : allowedB (cap q) ≡ true) (gm : Claim) 
   own-fine fo k (all-write j i v) h e = by-copy (StageFits (new .capacity)) k j (suc i) (λ t. tt) (λ t. tt)
   own-fine fo k (one-write j i v) h e =
       by-turning Good fo k j (suc i) (setCell q (j .b + i) v)
-      (λ t. by-stopped Good fo k j (j .n) (setCell q (j .b + i) v) (λ a z. tt) (λ z. tt) tt) (λ t. tt)
+      (λ t. by-stopped Good fo k j (suc i) (setCell q (j .b + i) v) (λ a z. tt) (λ z. tt) tt) (λ t. tt)
   own-fine fo k (swap-near j x) h e = tt
   own-fine fo k (swap-far j x near) h e = tt
   own-fine fo k (swap-put j x near far) h e = tt
@@ -199,7 +199,7 @@ module _ (C : ℕ) (q : Queue) where
   source-plain fs fo k (all-exchange h) = by-test Plain (eqb (q .front) (h .f)) _ _ (λ t. tt) (λ t. tt)
   source-plain fs fo k (one-first h v) =
       by-test Plain (eqb (q .front) (h .f)) _ _
-      (λ t. by-turning Plain fo k (onward h (some v)) 0 (setFront q (suc (h .f))) (λ u. stop-plain fo k (onward h (some v)) (h .n) (setFront q (suc (h .f)))) (λ u. tt)) (λ t. tt)
+      (λ t. by-turning Plain fo k (onward h (some v)) 0 (setFront q (suc (h .f))) (λ u. stop-plain fo k (onward h (some v)) 0 (setFront q (suc (h .f)))) (λ u. tt)) (λ t. tt)
   source-plain fs fo k (one-back h i) = by-test Plain (leb (q .back) (h .f)) _ _ (λ t. stop-plain fo k h i q) (λ t. tt)
   source-plain fs fo k (one-read h i) = tt
   source-plain fs fo k (one-reload h i v) = by-test Plain (eqb (h .ring) (q .ring)) _ _ (λ t. tt) (λ t. stop-plain fo k h i q)

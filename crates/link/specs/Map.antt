@@ -119,9 +119,9 @@ pushAt new (push-store b) = U.StoreBack (ix b)
 abbrev pub fifoAt : FifoPopStage → CodeFifo
 fifoAt fifo-back = D.LoadBack
 fifoAt (fifo-front b) = D.LoadFront (ix b)
-fifoAt (fifo-add b d) = D.FetchAdd (ix b) d
+fifoAt (fifo-add b others) = D.FetchAdd (ix b) others
 fifoAt (fifo-restore f) = D.RestoreFront (ix f)
-fifoAt (fifo-read f d) = D.Read (ix f) d
+fifoAt (fifo-read f others) = D.Read (ix f) others
 
 abbrev pub lifoAt : LifoPopStage → CodeLifo
 lifoAt lifo-back = L.LoadBack
@@ -129,10 +129,10 @@ lifoAt (lifo-front b) = L.LoadFront (ix b)
 lifoAt (lifo-store b) = L.StoreBack (ix b)
 lifoAt (lifo-reload b) = L.ReloadFront (ix b)
 lifoAt (lifo-restore b) = L.RestoreBack (ix b)
-lifoAt (lifo-last b f) = L.ReadLast (ix b) (ix f)
-lifoAt (lifo-exchange b f v) = L.Exchange (ix b) (ix f) v
+lifoAt (lifo-last b) = L.ReadLast (ix b)
+lifoAt (lifo-exchange b v) = L.Exchange (ix b) v
 lifoAt (lifo-won b v) = L.RestoreBackWon (ix b) v
-lifoAt (lifo-read b d) = L.Read (ix b) d
+lifoAt (lifo-read b others) = L.Read (ix b) others
 
 abbrev pub stealAt : (ℕ → Ring) → StealStage → CodeSteal
 stealAt R steal-front = S.LoadFront
@@ -239,18 +239,18 @@ offered (push x (push-write b)) q = 0
 offered (push x (push-store b)) q = 0
 offered (fifoPop w fifo-back) q = 0
 offered (fifoPop w (fifo-front b)) q = 0
-offered (fifoPop w (fifo-add b d)) q = 0
+offered (fifoPop w (fifo-add b others)) q = 0
 offered (fifoPop w (fifo-restore f)) q = 0
-offered (fifoPop w (fifo-read f d)) q = pick (ltb smallest (cap q) && leb d (cap q / 4)) (cap q / 2) 0
+offered (fifoPop w (fifo-read f others)) q = pick (ltb smallest (cap q) && leb (others + 1) (cap q / 4)) (cap q / 2) 0
 offered (lifoPop w lifo-back) q = 0
 offered (lifoPop w (lifo-front b)) q = 0
 offered (lifoPop w (lifo-store b)) q = 0
 offered (lifoPop w (lifo-reload b)) q = 0
 offered (lifoPop w (lifo-restore b)) q = 0
-offered (lifoPop w (lifo-last b f)) q = 0
-offered (lifoPop w (lifo-exchange b f v)) q = 0
+offered (lifoPop w (lifo-last b)) q = 0
+offered (lifoPop w (lifo-exchange b v)) q = 0
 offered (lifoPop w (lifo-won b v)) q = 0
-offered (lifoPop w (lifo-read b d)) q = pick (ltb smallest (cap q) && ltb d (cap q / 4)) (cap q / 2) 0
+offered (lifoPop w (lifo-read b others)) q = pick (ltb smallest (cap q) && ltb (others + 1) (cap q / 4)) (cap q / 2) 0
 offered (shrink w v z) q = 0
 offered (steal k p) q = 0
 offered (len k p) q = 0

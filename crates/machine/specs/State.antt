@@ -13,19 +13,21 @@ use Rattle.keeps.specs.Kept.{keptOf}
 use Rattle.core.specs.declared.answer.Answer.{Answer}
 use Rattle.core.specs.declared.answer.Answer.the-variants.{Refused}
 use Rattle.core.specs.declared.answer.Refusal.{Refusal}
+use Rattle.core.specs.Answers.{Told, told}
 use Rattle.core.specs.declared.out.Claim.{Claim}
 use Rattle.core.specs.declared.out.Claim.the-variants.{Nothing, Got}
 use Rattle.machine.specs.declared.state.Thread.{Thread}
 use Rattle.machine.specs.declared.state.Machine.{Machine}
 use Rattle.machine.specs.declared.state.Called.{Called}
 
--- what a call leaves: the machine with the answer, and the pool's cells
+-- what a call leaves: the machine with the answer, the pool's cells, and what the answer tells, by its numbers
 pub record After : Type 0 where
   pub called : Called
   pub cells : List ℕ
+  pub tells : Told
 
 abbrev pub leaves : Called → List ℕ → After
-leaves c cells = record { called = c; cells = cells }
+leaves c cells = record { called = c; cells = cells; tells = told (c .answer) }
 
 abbrev pub after : Machine → Answer → List ℕ → After
 after m a cells = leaves (record { machine = m; answer = a }) cells

@@ -1,9 +1,9 @@
 // What a claim finds.
 ghost use mathlib.Core.Path.{_≡_};
-ghost use Rattle.machine.specs.State.{stageAt};
 ghost use Rattle.machine.specs.Claim.{freeRing, claimOf};
 use crate::state::Machine;
 use core::out::Claim;
+use core::stage::Stage;
 use op_resize::found;
 use places::used::free_place;
 use stages::claims;
@@ -18,11 +18,11 @@ impl Machine {
         found(place, self.place_count, self.next_ring)
     }
 
-    // What the thread's step claims.
-    pub(crate) fn claim(self, thread: usize) -> Claim
-        ensures { λ r. ⌜ r ≡ claimOf self (stageAt self thread) ⌝ }
+    // What the step at a stage claims.
+    pub(crate) fn claim(self, stage: Stage) -> Claim
+        ensures { λ r. ⌜ r ≡ claimOf self stage ⌝ }
     {
-        if claims(self.stage(thread)) {
+        if claims(stage) {
             return self.free_ring();
         }
         Claim::Nothing

@@ -2,10 +2,11 @@
 ghost use mathlib.Core.Path.{_≡_};
 ghost use mathlib.Core.List.{[]};
 ghost use Rattle.core.specs.Out.{left};
-ghost use Rattle.stages.specs.Stages.{touchedOf, idleB};
-ghost use Rattle.gate.specs.Gate.{ownQueue, stepTests, thenGate};
-ghost use Rattle.machine.specs.State.{leaves, stageAt};
-ghost use Rattle.machine.specs.Step.{gateOf, advanced as advancedOf, stored as storedOf, stepOf};
+ghost use Rattle.stages.specs.Stages.{idleB};
+ghost use Rattle.gate.specs.Gate.{stepTests, thenGate};
+ghost use Rattle.advance.specs.Advance.{advanceOf};
+ghost use Rattle.machine.specs.State.{leaves, queueAt};
+ghost use Rattle.machine.specs.Step.{gateOf, stored as storedOf, stepOf};
 use crate::state::Called;
 use crate::state::Machine;
 use crate::state::number_after;
@@ -13,36 +14,30 @@ use crate::state::queues_with;
 use advance::advance;
 use core::out::Claim;
 use core::out::Out;
+use core::stage::Stage;
 use gate::Gate;
 use gate::own_queue;
 use gate::tests::step_tests;
 use gate::tests::then_gate;
+use stages::is_idle;
 use stages::touched;
 
 impl Machine {
-    // All the tests of a step, in order.
-    fn may_step(self, length: usize, thread: usize) -> Gate
-        ensures { λ r. ⌜ r ≡ thenGate (gateOf self length thread) (stepTests (idleB (stageAt self thread))) ⌝ }
+    // All the tests of a step at a stage, in order.
+    fn may_step(self, length: usize, thread: usize, stage: Stage) -> Gate
+        ensures { λ r. ⌜ r ≡ thenGate (gateOf self length thread) (stepTests (idleB stage)) ⌝ }
     {
-        let idle = self.idle(thread);
-        then_gate(self.gate(length, thread), step_tests(idle))
+        then_gate(self.gate(length, thread), step_tests(is_idle(stage)))
     }
 
-    // The queue that the thread's step touches.
-    fn touches(self, thread: usize) -> usize
-        ensures { λ r. ⌜ r ≡ touchedOf (stageAt self thread) (ownQueue thread) ⌝ }
+    // What the step at a stage leaves of queue k, which it touches, given what it claims.
+    fn advanced(self, pool: &mut [u64], own: usize, stage: Stage, k: usize, claim: Claim) -> Out
+        ensures { λ r. ⌜ left r (now (pool .exit)) ≡ advanceOf stage (queueAt self own .flavor) (queueAt self k) claim (now (pool .entry)) ⌝ }
     {
-        touched(self.stage(thread), own_queue(thread))
-    }
-
-    // What the thread's step leaves of that queue, given what it claims.
-    fn advanced(self, pool: &mut [u64], thread: usize, claim: Claim) -> Out
-        ensures { λ r. ⌜ left r (now (pool .exit)) ≡ advancedOf self (now (pool .entry)) thread (stageAt self thread) claim ⌝ }
-    {
-        let q = self.queue(self.touches(thread));
-        let mine = self.queue(own_queue(thread));
+        let q = self.queue(k);
+        let mine = self.queue(own);
         let flavor = mine.flavor;
-        advance(self.stage(thread), flavor, q, claim, pool)
+        advance(stage, flavor, q, claim, pool)
     }
 
     // The machine with what the thread's step left of queue k.
@@ -64,11 +59,13 @@ impl Machine {
     pub fn step(mut self, pool: &mut [u64], thread: usize) -> Called
         ensures { λ r. ⌜ leaves r (now (pool .exit)) ≡ stepOf self (now (pool .entry)) thread ⌝ }
     {
-        match self.may_step(pool.len(), thread) {
+        let stage = self.stage(thread);
+        match self.may_step(pool.len(), thread, stage) {
             Gate::Open => {
-                let k = self.touches(thread);
-                let claim = self.claim(thread);
-                let out = self.advanced(pool, thread, claim);
+                let own = own_queue(thread);
+                let k = touched(stage, own);
+                let claim = self.claim(stage);
+                let out = self.advanced(pool, own, stage, k, claim);
                 self.next_ring = number_after(self.next_ring, claim);
                 return self.stored(thread, k, out);
             }

@@ -55,7 +55,7 @@ by-stopped P fo k h i q x y z =
     (λ t. (let w = both-of (isNone (h .hand)) (eqb i 0) t in let w₁ = w .1 in x (none-of (h .hand) (w .0)) (omega tests)))
     (λ t. by-landing (λ (s : Stage). P (going q s)) fo k (withCount h i) y z)
 
-pub by-turning : (P : Out → Type 0) (fo : Flavour) (k : ℕ) (h : Haul) (i : ℕ) (q : Queue) → (h .n ≤ i → P (stopped fo k h (h .n) q))
+pub by-turning : (P : Out → Type 0) (fo : Flavour) (k : ℕ) (h : Haul) (i : ℕ) (q : Queue) → (h .n ≤ i → P (stopped fo k h i q))
     → (i < h .n → P (going q (source k (one-back h i)))) → P (turning fo k h i q)
 by-turning P fo k h i q x y = by-test P (leb (h .n) i) _ _ (λ t. x (omega tests)) (λ t. y (omega tests))
 

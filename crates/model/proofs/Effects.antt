@@ -100,13 +100,13 @@ module _ (g : Offer) (fo : Flavour) (t : ℕ) where
   fifo-does w (fifo-front b) q =
       by-test (D t (fifoPop w (fifo-front b)) q) (leb b (q .front)) _ _ (λ u. still refl refl refl refl refl refl (λ j r h. absurd h))
       (λ u. still refl refl refl refl refl refl (λ j r h. absurd h))
-  fifo-does w (fifo-add b d) q =
-      by-test (λ (x : Stage). D t (fifoPop w (fifo-add b d)) q (going (setFront q (suc (q .front))) x)) (ltb b (suc (q .front))) _ _
+  fifo-does w (fifo-add b others) q =
+      by-test (λ (x : Stage). D t (fifoPop w (fifo-add b others)) q (going (setFront q (suc (q .front))) x)) (ltb b (suc (q .front))) _ _
       (λ u. still refl refl refl refl refl refl (λ j r h. absurd h))
       (λ u. still refl refl refl refl refl refl (λ j r h. absurd h))
   fifo-does w (fifo-restore f) q = still refl refl refl refl refl refl (λ j r h. absurd h)
-  fifo-does w (fifo-read f d) q =
-      by-test (D t (fifoPop w (fifo-read f d)) q) (ltb 0 (g .capacity) && leb d (g .capacity)) _ _
+  fifo-does w (fifo-read f others) q =
+      by-test (D t (fifoPop w (fifo-read f others)) q) (ltb 0 (g .capacity) && leb (suc others) (g .capacity)) _ _
       (λ u. still refl refl refl refl refl refl (λ j r h. absurd h))
       (λ u. still refl refl refl refl refl refl (λ j r h. absurd h))
 
@@ -123,14 +123,14 @@ module _ (g : Offer) (fo : Flavour) (t : ℕ) where
       (λ u. by-test P (leb (b - 1) (q .front)) _ _ (λ y. still refl refl refl refl refl refl (λ j r h. absurd h))
       (λ y. still refl refl refl refl refl refl (λ j r h. absurd h)))
   lifo-does w (lifo-restore b) q = still refl refl refl refl refl refl (λ j r h. absurd h)
-  lifo-does w (lifo-last b f) q = still refl refl refl refl refl refl (λ j r h. absurd h)
-  lifo-does w (lifo-exchange b f v) q =
-      by-test (D t (lifoPop w (lifo-exchange b f v)) q) (eqb (q .front) f) _ _
+  lifo-does w (lifo-last b) q = still refl refl refl refl refl refl (λ j r h. absurd h)
+  lifo-does w (lifo-exchange b v) q =
+      by-test (D t (lifoPop w (lifo-exchange b v)) q) (eqb (q .front) (b - 1)) _ _
       (λ u. still refl refl refl refl refl refl (λ j r h. absurd h))
       (λ u. still refl refl refl refl refl refl (λ j r h. absurd h))
   lifo-does w (lifo-won b v) q = still refl refl refl refl refl refl (λ j r h. absurd h)
-  lifo-does w (lifo-read b d) q =
-      by-test (D t (lifoPop w (lifo-read b d)) q) (ltb 0 (g .capacity) && leb d (g .capacity)) _ _
+  lifo-does w (lifo-read b others) q =
+      by-test (D t (lifoPop w (lifo-read b others)) q) (ltb 0 (g .capacity) && leb (suc others) (g .capacity)) _ _
       (λ u. still refl refl refl refl refl refl (λ j r h. absurd h))
       (λ u. still refl refl refl refl refl refl (λ j r h. absurd h))
 
@@ -209,7 +209,7 @@ module _ (g : Offer) (fo : Flavour) (t : ℕ) where
   source-does fs k (one-first h x) q =
       by-test (D k (source k (one-first h x)) q) (eqb (q .front) (h .f)) _ _
       (λ u. by-turning (D k (source k (one-first h x)) q) fo k (onward h (some x)) 0 (setFront q (suc (h .f)))
-      (λ e. stop-does k (one-first h x) (onward h (some x)) (h .n) q (setFront q (suc (h .f))) (λ i w. w) refl refl refl refl)
+      (λ e. stop-does k (one-first h x) (onward h (some x)) 0 q (setFront q (suc (h .f))) (λ i w. w) refl refl refl refl)
       (λ e. still refl refl refl refl refl refl (λ j i h. inl h)))
       (λ u. still refl refl refl refl refl refl (λ j i h. absurd h))
   source-does fs k (one-back h i) q =
@@ -249,7 +249,7 @@ module _ (g : Offer) (fo : Flavour) (t : ℕ) where
       (λ u. writes refl refl refl (λ j i h. h)) (λ u. writes refl refl refl (λ j i h. h))
   own-does k (one-write h i v) q =
       by-turning (D t (own k (one-write h i v)) q) fo k h (suc i) (setCell q (h .b + i) v)
-      (λ e. by-stopped (D t (own k (one-write h i v)) q) fo k h (h .n) (setCell q (h .b + i) v)
+      (λ e. by-stopped (D t (own k (one-write h i v)) q) fo k h (suc i) (setCell q (h .b + i) v)
       (λ a z. writes refl refl refl (λ j i h. absurd h)) (λ z. writes refl refl refl (λ j i h. h)) (writes refl refl refl (λ j i h. h)))
       (λ e. writes refl refl refl (λ j i h. h))
   own-does k (swap-near h x) q = still refl refl refl refl refl refl (λ j i h. inl h)

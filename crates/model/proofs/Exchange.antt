@@ -59,11 +59,11 @@ jump-fifo : (fl : Flavour) (w : Popper) (p : FifoPopStage) (q : Queue) (m : ℕ)
     → Jump fl (fifoPop w p) q m
 jump-fifo fl w fifo-back q m o a b = jump-of fl (fifoPop w fifo-back) q m o (omega arith) b refl refl refl (λ j. refl) (o .stage)
 jump-fifo fl w (fifo-front i) q m o a b = jump-of fl (fifoPop w (fifo-front i)) q m o (omega arith) b refl refl refl (λ j. refl) (o .stage)
-jump-fifo fl w (fifo-add i d) q m o a b =
-    jump-of fl (fifoPop w (fifo-add i d)) q m o (omega arith) b refl refl refl (λ j. refl) (o .stage .0, omega arith)
+jump-fifo fl w (fifo-add i others) q m o a b =
+    jump-of fl (fifoPop w (fifo-add i others)) q m o (omega arith) b refl refl refl (λ j. refl) (o .stage .0, omega arith)
 jump-fifo fl w (fifo-restore i) q m o a b = absurd (omega arith)
-jump-fifo fl w (fifo-read i d) q m o a b =
-    jump-of fl (fifoPop w (fifo-read i d)) q m o (omega arith) b refl refl refl (λ j. refl) (o .stage .0, omega arith)
+jump-fifo fl w (fifo-read i others) q m o a b =
+    jump-of fl (fifoPop w (fifo-read i others)) q m o (omega arith) b refl refl refl (λ j. refl) (o .stage .0, omega arith)
 
 jump-lifo : (fl : Flavour) (w : Popper) (p : LifoPopStage) (q : Queue) (m : ℕ) → Ok fl (lifoPop w p) q → q .front < m → m ≤ hi (lifoPop w p) q
     → Jump fl (lifoPop w p) q m
@@ -72,15 +72,15 @@ jump-lifo fl w (lifo-front i) q m o a b = jump-of fl (lifoPop w (lifo-front i)) 
 jump-lifo fl w (lifo-store i) q m o a b = jump-of fl (lifoPop w (lifo-store i)) q m o (omega arith) b refl refl refl (λ j. refl) (o .stage)
 jump-lifo fl w (lifo-reload i) q m o a b = jump-of fl (lifoPop w (lifo-reload i)) q m o (omega arith) b refl refl refl (λ j. refl) (o .stage)
 jump-lifo fl w (lifo-restore i) q m o a b = absurd (omega arith)
-jump-lifo fl w (lifo-last i f) q m o a b =
-    jump-of fl (lifoPop w (lifo-last i f)) q m o (omega arith) b refl refl refl
-    (λ j. refl) (o .stage .0, (o .stage .1 .0, o .stage .1 .1, omega arith))
-jump-lifo fl w (lifo-exchange i f v) q m o a b =
-    jump-of fl (lifoPop w (lifo-exchange i f v)) q m o (omega arith) b refl refl refl (λ j. refl)
-    (o .stage .0, (o .stage .1 .0, o .stage .1 .1, omega arith, λ e. absurd (omega arith)))
+jump-lifo fl w (lifo-last i) q m o a b =
+    jump-of fl (lifoPop w (lifo-last i)) q m o (omega arith) b refl refl refl
+    (λ j. refl) (o .stage .0, (o .stage .1 .0, omega arith))
+jump-lifo fl w (lifo-exchange i v) q m o a b =
+    jump-of fl (lifoPop w (lifo-exchange i v)) q m o (omega arith) b refl refl refl (λ j. refl)
+    (o .stage .0, (o .stage .1 .0, omega arith, λ e. absurd (omega arith)))
 jump-lifo fl w (lifo-won i v) q m o a b = absurd (omega arith)
-jump-lifo fl w (lifo-read i d) q m o a b =
-    jump-of fl (lifoPop w (lifo-read i d)) q m o (omega arith) b refl refl refl (λ j. refl) (o .stage .0, (o .stage .1 .0, omega arith))
+jump-lifo fl w (lifo-read i others) q m o a b =
+    jump-of fl (lifoPop w (lifo-read i others)) q m o (omega arith) b refl refl refl (λ j. refl) (o .stage .0, (o .stage .1 .0, omega arith))
 
 jump-own : (p : OwnStage) (q : Queue) (m : ℕ) → OwnOk p q → q .front < m → m ≤ q .back → OwnOk p (setFront q m)
 jump-own (reserve-back w) q m o a b = tt

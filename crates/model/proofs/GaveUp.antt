@@ -81,10 +81,10 @@ module _ (g : Offer) (fo : Flavour) where
   unfolding fifoStep
   fifo-gave-up w fifo-back q = λ h. h
   fifo-gave-up w (fifo-front b) q = by-test Never (leb b (q .front)) _ _ (λ t h. h) (λ t h. h)
-  fifo-gave-up w (fifo-add b d) q =
+  fifo-gave-up w (fifo-add b others) q =
       by-test (λ (x : Stage). Never (going (setFront q (suc (q .front))) x)) (ltb b (suc (q .front))) _ _ (λ t h. h) (λ t h. h)
   fifo-gave-up w (fifo-restore f) q = λ h. h
-  fifo-gave-up w (fifo-read f d) q = by-test Never (ltb 0 (g .capacity) && leb d (g .capacity)) _ _ (λ t h. h) (λ t h. h)
+  fifo-gave-up w (fifo-read f others) q = by-test Never (ltb 0 (g .capacity) && leb (suc others) (g .capacity)) _ _ (λ t h. h) (λ t h. h)
 
   lifo-gave-up : (w : Popper) (p : LifoPopStage) (q : Queue) → Never (lifoStep g w p q)
   unfolding lifoStep
@@ -95,10 +95,10 @@ module _ (g : Offer) (fo : Flavour) where
       by-test (λ (x : Stage). Never (going q x)) (ltb (b - 1) (q .front)) _ _ (λ t h. h)
       (λ t. by-test (λ (x : Stage). Never (going q x)) (leb (b - 1) (q .front)) _ _ (λ u h. h) (λ u h. h))
   lifo-gave-up w (lifo-restore b) q = λ h. h
-  lifo-gave-up w (lifo-last b f) q = λ h. h
-  lifo-gave-up w (lifo-exchange b f v) q = by-test Never (eqb (q .front) f) _ _ (λ t h. h) (λ t h. h)
+  lifo-gave-up w (lifo-last b) q = λ h. h
+  lifo-gave-up w (lifo-exchange b v) q = by-test Never (eqb (q .front) (b - 1)) _ _ (λ t h. h) (λ t h. h)
   lifo-gave-up w (lifo-won b v) q = λ h. h
-  lifo-gave-up w (lifo-read b d) q = by-test Never (ltb 0 (g .capacity) && leb d (g .capacity)) _ _ (λ t h. h) (λ t h. h)
+  lifo-gave-up w (lifo-read b others) q = by-test Never (ltb 0 (g .capacity) && leb (suc others) (g .capacity)) _ _ (λ t h. h) (λ t h. h)
 
   steal-gave-up : (k : ℕ) (p : StealStage) (q : Queue) → Never (stealStep k p q)
   unfolding stealStep
@@ -148,7 +148,7 @@ module _ (g : Offer) (fo : Flavour) where
   source-gave-up fs k (all-exchange h) q = by-test (U (source k (all-exchange h)) q) (eqb (q .front) (h .f)) _ _ (λ t u. absurd u) (λ t u. absurd u)
   source-gave-up fs k (one-first h v) q =
       by-test (U (source k (one-first h v)) q) (eqb (q .front) (h .f)) _ _
-      (λ t u. absurd (by-turning Never fo k (onward h (some v)) 0 (setFront q (suc (h .f))) (λ z. stop-never k (onward h (some v)) (h .n) (setFront q (suc (h .f)))) (λ z x. x) u))
+      (λ t u. absurd (by-turning Never fo k (onward h (some v)) 0 (setFront q (suc (h .f))) (λ z. stop-never k (onward h (some v)) 0 (setFront q (suc (h .f)))) (λ z x. x) u))
       (λ t u. absurd u)
   source-gave-up fs k (one-back h i) q =
       by-test (U (source k (one-back h i)) q) (leb (q .back) (h .f)) _ _ (λ t u. absurd (stop-never k h i q u)) (λ t u. absurd u)
@@ -175,7 +175,7 @@ module _ (g : Offer) (fo : Flavour) where
   own-gave-up k (own-back w) q = λ u. absurd u
   own-gave-up k (all-write h i v) q = λ u. absurd (copy-never k h (suc i) (setCell q (slot fo h i) v) u)
   own-gave-up k (one-write h i v) q = λ u.
-      absurd (by-turning Never fo k h (suc i) (setCell q (h .b + i) v) (λ z. stop-never k h (h .n) (setCell q (h .b + i) v)) (λ z x. x) u)
+      absurd (by-turning Never fo k h (suc i) (setCell q (h .b + i) v) (λ z. stop-never k h (suc i) (setCell q (h .b + i) v)) (λ z x. x) u)
   own-gave-up k (swap-near h x) q = λ u. absurd u
   own-gave-up k (swap-far h x near) q = λ u. absurd u
   own-gave-up k (swap-put h x near far) q = λ u. absurd u

@@ -34,9 +34,9 @@ front-fifo : (fl : Flavour) (w : Popper) (p : FifoPopStage) (q : Queue) → Ok f
     → (q .front ≤ suc (q .back)) × (hi (fifoPop w p) q ≤ suc (q .back))
 front-fifo fl w fifo-back q o = omega (arith, o .order)
 front-fifo fl w (fifo-front b) q o = omega (arith, o .order)
-front-fifo fl w (fifo-add b d) q o = omega (arith, o .order)
+front-fifo fl w (fifo-add b others) q o = omega (arith, o .order)
 front-fifo fl w (fifo-restore f) q o = omega (arith, o .stage .1 .0, o .stage .1 .1)
-front-fifo fl w (fifo-read f d) q o = omega (arith, o .order)
+front-fifo fl w (fifo-read f others) q o = omega (arith, o .order)
 
 front-lifo : (fl : Flavour) (w : Popper) (p : LifoPopStage) (q : Queue) → Ok fl (lifoPop w p) q
     → (q .front ≤ suc (q .back)) × (hi (lifoPop w p) q ≤ suc (q .back))
@@ -45,10 +45,10 @@ front-lifo fl w (lifo-front b) q o = omega (arith, o .order)
 front-lifo fl w (lifo-store b) q o = omega (arith, o .order)
 front-lifo fl w (lifo-reload b) q o = omega arith
 front-lifo fl w (lifo-restore b) q o = omega arith
-front-lifo fl w (lifo-last b f) q o = omega arith
-front-lifo fl w (lifo-exchange b f v) q o = omega arith
+front-lifo fl w (lifo-last b) q o = omega arith
+front-lifo fl w (lifo-exchange b v) q o = omega arith
 front-lifo fl w (lifo-won b v) q o = omega arith
-front-lifo fl w (lifo-read b d) q o = omega (arith, o .order)
+front-lifo fl w (lifo-read b others) q o = omega (arith, o .order)
 
 pub front-le : (fl : Flavour) (s : Stage) (q : Queue) → Ok fl s q → (q .front ≤ suc (q .back)) × (hi s q ≤ suc (q .back))
 front-le fl idle q o = omega (arith, o .order)
@@ -115,10 +115,10 @@ slow-fifo : (g : Offer) (w : Popper) (p : FifoPopStage) (q : Queue) → Slow (q 
 unfolding fifoStep
 slow-fifo g w fifo-back q = omega arith
 slow-fifo g w (fifo-front b) q = by-test (Slow (q .back + 0)) (leb b (q .front)) _ _ (λ t. omega arith) (λ t. omega arith)
-slow-fifo g w (fifo-add b d) q =
+slow-fifo g w (fifo-add b others) q =
     by-test (λ (x : Stage). Slow (q .back + 0) (going (setFront q (suc (q .front))) x)) (ltb b (suc (q .front))) _ _ (λ t. omega arith) (λ t. omega arith)
 slow-fifo g w (fifo-restore f) q = omega arith
-slow-fifo g w (fifo-read f d) q = slow-reading g w d (at q f) q
+slow-fifo g w (fifo-read f others) q = slow-reading g w (suc others) (at q f) q
 
 slow-lifo : (g : Offer) (w : Popper) (p : LifoPopStage) (q : Queue) → LifoOk p q → Slow (q .back + 0) (lifoStep g w p q)
 unfolding lifoStep
@@ -129,10 +129,10 @@ slow-lifo g w (lifo-reload b) q o =
     let P : Stage → Type 0 = λ x. Slow (q .back + 0) (going q x) in
     by-test P (ltb (b - 1) (q .front)) _ _ (λ t. omega arith) (λ t. by-test P (leb (b - 1) (q .front)) _ _ (λ u. omega arith) (λ u. omega arith))
 slow-lifo g w (lifo-restore b) q o = omega arith
-slow-lifo g w (lifo-last b f) q o = omega arith
-slow-lifo g w (lifo-exchange b f v) q o = by-test (Slow (q .back + 0)) (eqb (q .front) f) _ _ (λ t. omega arith) (λ t. omega arith)
+slow-lifo g w (lifo-last b) q o = omega arith
+slow-lifo g w (lifo-exchange b v) q o = by-test (Slow (q .back + 0)) (eqb (q .front) (b - 1)) _ _ (λ t. omega arith) (λ t. omega arith)
 slow-lifo g w (lifo-won b v) q o = omega arith
-slow-lifo g w (lifo-read b d) q o = slow-reading g w d (at q (b - 1)) q
+slow-lifo g w (lifo-read b others) q o = slow-reading g w (suc others) (at q (b - 1)) q
 
 slow-own : (g : Offer) (fo : Flavour) (k : ℕ) (p : OwnStage) (q : Queue) → OwnOk p q → Slow (q .back + earnedOwn p) (ownStep g fo k p q)
 unfolding ownStep
@@ -149,7 +149,7 @@ slow-own g fo k (all-write h i x) q o =
     by-copy (λ (s : Stage). Slow (q .back + i) (going (setCell q (slot fo h i) x) s)) k h (suc i) (λ t. omega arith) (λ t. omega arith)
 slow-own g fo k (one-write h i x) q o =
     by-turning (Slow (q .back + i)) fo k h (suc i) (setCell q (h .b + i) x)
-    (λ e. by-stopped (Slow (q .back + i)) fo k h (h .n) (setCell q (h .b + i) x) (λ a z. omega arith) (λ z. omega arith) (omega arith)) (λ e. omega arith)
+    (λ e. by-stopped (Slow (q .back + i)) fo k h (suc i) (setCell q (h .b + i) x) (λ a z. omega arith) (λ z. omega arith) (omega arith)) (λ e. omega arith)
 slow-own g fo k (swap-near h x) q o = omega arith
 slow-own g fo k (swap-far h x near) q o = omega arith
 slow-own g fo k (swap-put h x near far) q o = omega arith
@@ -192,9 +192,7 @@ module _ (m : ℕ) (q : Queue) (fm : q .front ≤ m) (bm : q .back ≤ m) where
   slow-source fs fo k (one-first h x) =
       by-test (Slowly m (q .back) 0) (eqb (q .front) (h .f)) _ _
       (λ t. by-turning (Slowly m (q .back) 0) fo k (onward h (some x)) 0 (setFront q (suc (h .f)))
-      (λ z. (let e : h .n ≡ 0 = omega arith in
-      subst (λ (i : ℕ). Slowly m (q .back) i (stopped fo k (onward h (some x)) (h .n) (setFront q (suc (h .f))))) e
-      (slow-stop fo k (onward h (some x)) (h .n) (setFront q (suc (h .f))) refl))) (λ z. omega arith))
+      (λ z. slow-stop fo k (onward h (some x)) 0 (setFront q (suc (h .f))) refl) (λ z. omega arith))
       (λ t. omega arith)
   slow-source fs fo k (one-back h i) =
       by-test (Slowly m (q .back) i) (leb (q .back) (h .f)) _ _ (λ t. slow-stop fo k h i q refl) (λ t. omega arith)

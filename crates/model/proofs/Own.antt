@@ -116,11 +116,9 @@ module _ (fs fo : Flavour) (k : ℕ) (v : View) where
       omega (arith, part-write fifo q h i x j (o .stage .1) (omega arith)) in
       let i<n = o .stage .1 in
       by-turning (Fine p q) fo k h (suc i) q′
-      (λ e. (let d : h .n ≡ suc i = omega arith in
-      let c′ : (j : ℕ) → held (own k p) q j ≡ handOf (h .hand) j + stand (at q′) (h .b) (h .b + h .n) j = λ j. rw d (c j) in
-      by-stopped (Fine p q) fo k h (h .n) q′ (λ a z. absurd (omega arith))
-      (λ l. wrote p (own k (swap-near (withCount h (h .n)) 0)) q (h .b + i) x o refl refl (omega arith) (omega arith) c′ (λ m. tt) (refl, w .2) (o .stage .0, omega arith))
-      (wrote p (own k (own-store (withCount h (h .n)))) q (h .b + i) x o refl refl (omega arith) (omega arith) c′ (λ m. tt) (refl, w .2) (o .stage .0))))
+      (λ e. by-stopped (Fine p q) fo k h (suc i) q′ (λ a z. absurd (omega arith))
+      (λ l. wrote p (own k (swap-near (withCount h (suc i)) 0)) q (h .b + i) x o refl refl (omega arith) (omega arith) c (λ m. tt) (refl, w .2) ((o .stage .0 .0, omega arith), omega arith))
+      (wrote p (own k (own-store (withCount h (suc i)))) q (h .b + i) x o refl refl (omega arith) (omega arith) c (λ m. tt) (refl, w .2) (o .stage .0 .0, omega arith)))
       (λ e. wrote p (source k (one-back h (suc i))) q (h .b + i) x o refl refl (omega arith) (omega arith) c (λ m. tt) (refl, w) (o .stage .0, e))
 
   -- ---- reversal

@@ -54,9 +54,9 @@ reading-good g fl s p d v q o e f h r =
 
 -- ---- FIFO
 
-fifo-lost : (fl : Flavour) (w : Popper) (b d : ℕ) (q : Queue) → Ok fl (fifoPop w (fifo-add b d)) q → b ≤ q .front
-    → Good Calm fl (fifoPop w (fifo-add b d)) q (going (setFront q (suc (q .front))) (fifoPop w (fifo-restore (q .front))))
-fifo-lost fl w b d q o h = record {
+fifo-lost : (fl : Flavour) (w : Popper) (b others : ℕ) (q : Queue) → Ok fl (fifoPop w (fifo-add b others)) q → b ≤ q .front
+    → Good Calm fl (fifoPop w (fifo-add b others)) q (going (setFront q (suc (q .front))) (fifoPop w (fifo-restore (q .front))))
+fifo-lost fl w b others q o h = record {
   ok = record {
     order = o .order;
     fits = o .fits;
@@ -68,18 +68,18 @@ fifo-lost fl w b d q o h = record {
     reach = reach-fifo fl (q .front) (suc (q .front)) (o .stage .0);
     stage = (o .stage .0, (refl, omega arith));
   };
-  ev = ev-refl fl (view (fifoPop w (fifo-add b d)) q);
+  ev = ev-refl fl (view (fifoPop w (fifo-add b others)) q);
   bal = λ m j w. refl;
   says = λ m h. tt;
   after = tt;
 }
 
-fifo-got : (fl : Flavour) (w : Popper) (b d : ℕ) (q : Queue) → Ok fl (fifoPop w (fifo-add b d)) q → q .front < b
-    → Good Calm fl (fifoPop w (fifo-add b d)) q (going (setFront q (suc (q .front))) (fifoPop w (fifo-read (q .front) d)))
-fifo-got fl w b d q o h = record {
-  ok = ok-rest fl (fifoPop w (fifo-read (q .front) d)) (setFront q (suc (q .front))) refl refl (omega arith) (omega arith) (o .some-cap) (o .ring-top)
+fifo-got : (fl : Flavour) (w : Popper) (b others : ℕ) (q : Queue) → Ok fl (fifoPop w (fifo-add b others)) q → q .front < b
+    → Good Calm fl (fifoPop w (fifo-add b others)) q (going (setFront q (suc (q .front))) (fifoPop w (fifo-read (q .front) others)))
+fifo-got fl w b others q o h = record {
+  ok = ok-rest fl (fifoPop w (fifo-read (q .front) others)) (setFront q (suc (q .front))) refl refl (omega arith) (omega arith) (o .some-cap) (o .ring-top)
       (o .stage .0, omega arith);
-  ev = ev-ends fl (view (fifoPop w (fifo-add b d)) q) (suc (q .front)) (q .back) (omega arith) (λ f r k. k);
+  ev = ev-ends fl (view (fifoPop w (fifo-add b others)) q) (suc (q .front)) (q .back) (omega arith) (λ f r k. k);
   bal = λ m j w. omega (arith, stand-front (at q) (q .front) (q .back) j (omega arith));
   says = λ m h. tt;
   after = tt;
@@ -104,13 +104,13 @@ fifo-good g fl w fifo-back q o =
 fifo-good g fl w (fifo-front b) q o =
     by-test (Good Calm fl (fifoPop w (fifo-front b)) q) (leb b (q .front)) _ _
     (λ t. quiet Calm fl (fifoPop w (fifo-front b)) idle (nothing w) q o refl refl (λ m j. refl) (λ m h. tt) tt tt)
-    (λ t. quiet Calm fl (fifoPop w (fifo-front b)) (fifoPop w (fifo-add b (b - q .front))) working q o refl refl (λ m j. refl) (λ m h. tt) tt
+    (λ t. quiet Calm fl (fifoPop w (fifo-front b)) (fifoPop w (fifo-add b (b - q .front - 1))) working q o refl refl (λ m j. refl) (λ m h. tt) tt
     (o .stage .0, (o .stage .1, omega arith)))
-fifo-good g fl w (fifo-add b d) q o =
-    by-test (λ (x : Stage). Good Calm fl (fifoPop w (fifo-add b d)) q (going (setFront q (suc (q .front))) x)) (ltb b (suc (q .front))) _ _
-    (λ t. fifo-lost fl w b d q o (omega tests)) (λ t. fifo-got fl w b d q o (omega tests))
+fifo-good g fl w (fifo-add b others) q o =
+    by-test (λ (x : Stage). Good Calm fl (fifoPop w (fifo-add b others)) q (going (setFront q (suc (q .front))) x)) (ltb b (suc (q .front))) _ _
+    (λ t. fifo-lost fl w b others q o (omega tests)) (λ t. fifo-got fl w b others q o (omega tests))
 fifo-good g fl w (fifo-restore f) q o = fifo-restored g fl w f q o
-fifo-good g fl w (fifo-read f d) q o = reading-good g fl (fifoPop w (fifo-read f d)) w d (at q f) q o refl refl (λ j. refl) (o .stage .1)
+fifo-good g fl w (fifo-read f others) q o = reading-good g fl (fifoPop w (fifo-read f others)) w (suc others) (at q f) q o refl refl (λ j. refl) (o .stage .1)
 
 -- ---- LIFO
 
@@ -136,9 +136,9 @@ lifo-stored fl w b q o = record {
 
 -- d > 0: the job at b - 1 is the owner's from the load of front on
 lifo-taken : (fl : Flavour) (w : Popper) (b : ℕ) (q : Queue) → Ok fl (lifoPop w (lifo-reload b)) q → suc (q .front) < b
-    → Good Calm fl (lifoPop w (lifo-reload b)) q (going q (lifoPop w (lifo-read b (b - 1 - q .front))))
+    → Good Calm fl (lifoPop w (lifo-reload b)) q (going q (lifoPop w (lifo-read b (b - 1 - q .front - 1))))
 lifo-taken fl w b q o h = record {
-  ok = ok-rest fl (lifoPop w (lifo-read b (b - 1 - q .front))) q refl refl (omega arith) (omega arith) (o .some-cap) (o .ring-top)
+  ok = ok-rest fl (lifoPop w (lifo-read b (b - 1 - q .front - 1))) q refl refl (omega arith) (omega arith) (o .some-cap) (o .ring-top)
       (o .stage .0, (o .stage .1, omega arith));
   ev = ev-ends fl (view (lifoPop w (lifo-reload b)) q) (q .front) (q .back) (omega arith)
       (λ f r k. omega (arith, le-reach fl (q .front) f (o .stage .0) r));
@@ -147,9 +147,9 @@ lifo-taken fl w b q o h = record {
   after = tt;
 }
 
-lifo-exchanged : (fl : Flavour) (w : Popper) (b f v : ℕ) (q : Queue) → Ok fl (lifoPop w (lifo-exchange b f v)) q → q .front ≡ f
-    → Good Calm fl (lifoPop w (lifo-exchange b f v)) q (going (setFront q (suc f)) (lifoPop w (lifo-won b v)))
-lifo-exchanged fl w b f v q o h = record {
+lifo-exchanged : (fl : Flavour) (w : Popper) (b v : ℕ) (q : Queue) → Ok fl (lifoPop w (lifo-exchange b v)) q → q .front ≡ b - 1
+    → Good Calm fl (lifoPop w (lifo-exchange b v)) q (going (setFront q (suc (b - 1))) (lifoPop w (lifo-won b v)))
+lifo-exchanged fl w b v q o h = record {
   ok = record {
     order = omega arith;
     fits = omega arith;
@@ -158,11 +158,13 @@ lifo-exchanged fl w b f v q o h = record {
     backs = omega arith;
     fronts = omega arith;
     exact = λ k. refl;
-    reach = reach-le fl (suc f) (suc f) (omega arith);
-    stage = (o .stage .0, (o .stage .1 .0, o .stage .1 .1));
+    reach = reach-le fl (suc (b - 1)) (suc (b - 1)) (omega arith);
+    stage = (o .stage .0, (o .stage .1 .0, omega arith));
   };
-  ev = ev-ends fl (view (lifoPop w (lifo-exchange b f v)) q) (suc f) b (omega arith) (λ g r k. k);
-  bal = λ m j w. rw (h, o .stage .1 .3 h) (omega (arith, stand-front (at q) f b j (omega arith)));
+  ev = ev-ends fl (view (lifoPop w (lifo-exchange b v)) q) (suc (b - 1)) b (omega arith) (λ g r k. k);
+  bal = λ m j w. (let e : q .front ≡ q .back = omega arith in
+      let f : b - 1 ≡ q .back = omega arith in
+      rw (e, f, o .stage .1 .2 e) (omega (arith, stand-front (at q) (q .back) b j (omega arith))));
   says = λ m h. tt;
   after = tt;
 }
@@ -195,18 +197,18 @@ lifo-good g fl w (lifo-reload b) q o =
     (λ t. quiet Calm fl (lifoPop w (lifo-reload b)) (lifoPop w (lifo-restore b)) working q o refl refl (λ m j. refl) (λ m h. tt) tt
     (o .stage .0, (o .stage .1, omega tests)))
     (λ t. by-test P (leb (b - 1) (q .front)) _ _
-    (λ u. quiet Calm fl (lifoPop w (lifo-reload b)) (lifoPop w (lifo-last b (q .front))) working q o refl refl (λ m j. refl) (λ m h. tt) tt
-    (o .stage .0, (o .stage .1, omega tests, omega arith)))
+    (λ u. quiet Calm fl (lifoPop w (lifo-reload b)) (lifoPop w (lifo-last b)) working q o refl refl (λ m j. refl) (λ m h. tt) tt
+    (o .stage .0, (o .stage .1, omega tests)))
     (λ u. lifo-taken fl w b q o (omega tests)))
 lifo-good g fl w (lifo-restore b) q o = lifo-reset fl w (lifo-restore b) b (nothing w) q o refl (λ m j. refl) (omega arith)
-lifo-good g fl w (lifo-last b f) q o =
-    quiet Calm fl (lifoPop w (lifo-last b f)) _ working q o refl refl (λ m j. refl) (λ m h. tt) tt
-    (o .stage .0, (o .stage .1 .0, o .stage .1 .1, o .stage .1 .2, λ e. (let g : b - 1 ≡ f = omega arith in rw g)))
-lifo-good g fl w (lifo-exchange b f v) q o =
-    by-test (Good Calm fl (lifoPop w (lifo-exchange b f v)) q) (eqb (q .front) f) _ _ (λ t. lifo-exchanged fl w b f v q o (omega tests))
-    (λ t. quiet Calm fl (lifoPop w (lifo-exchange b f v)) (lifoPop w (lifo-restore b)) working q o refl refl (λ m j. refl) (λ m h. tt) tt
+lifo-good g fl w (lifo-last b) q o =
+    quiet Calm fl (lifoPop w (lifo-last b)) _ working q o refl refl (λ m j. refl) (λ m h. tt) tt
+    (o .stage .0, (o .stage .1 .0, o .stage .1 .1, λ e. (let g : b - 1 ≡ q .back = omega arith in rw g)))
+lifo-good g fl w (lifo-exchange b v) q o =
+    by-test (Good Calm fl (lifoPop w (lifo-exchange b v)) q) (eqb (q .front) (b - 1)) _ _ (λ t. lifo-exchanged fl w b v q o (omega tests))
+    (λ t. quiet Calm fl (lifoPop w (lifo-exchange b v)) (lifoPop w (lifo-restore b)) working q o refl refl (λ m j. refl) (λ m h. tt) tt
     (o .stage .0, (o .stage .1 .0, omega tests)))
 lifo-good g fl w (lifo-won b v) q o = lifo-reset fl w (lifo-won b v) b (job w v) q o refl (λ m j. omega arith) (omega arith)
-lifo-good g fl w (lifo-read b d) q o =
-    reading-good g fl (lifoPop w (lifo-read b d)) w d (at q (b - 1)) q o refl refl (λ j. (let g : b - 1 ≡ q .back =
+lifo-good g fl w (lifo-read b others) q o =
+    reading-good g fl (lifoPop w (lifo-read b others)) w (suc others) (at q (b - 1)) q o refl refl (λ j. (let g : b - 1 ≡ q .back =
     omega arith in rw g)) (o .stage .1 .1)

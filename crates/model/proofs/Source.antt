@@ -155,10 +155,8 @@ module _ (fs fo : Flavour) (k : ℕ) (s : Stage) (q : Queue) (o : Ok fs s q) (mq
       let c : (j : ℕ) → one x j + 0 ≡ one x j + stand (at mq) (h .b) (h .b + 0) j = λ j. omega (arith, stand-empty (at mq) (h .b) (h .b + 0) j (omega arith)) in
       let u = le-reach fs (lo s q′) (suc (h .f)) (w .0 .0) (g .ok .reach) in
       by-turning (Robs p) fo k h′ 0 q′
-      (λ i. (let z : h .n ≡ 0 = omega arith in
-      let c′ : (j : ℕ) → one x j + 0 ≡ one x j + stand (at mq) (h .b) (h .b + h .n) j = λ j. rw z (c j) in
-      by-stopped (Robs p) fo k h′ (h .n) q′ (λ a b. absurd (not-none x a)) (λ b. absurd (omega arith))
-      (taken p (own k (own-store (withCount h′ (h .n)))) (h .f) x mo g refl refl c′ (λ m. tt) (refl, w .0 .2) (mo .stage))))
+      (λ i. by-stopped (Robs p) fo k h′ 0 q′ (λ a b. absurd (not-none x a)) (λ b. absurd (omega arith))
+      (taken p (own k (own-store (withCount h′ 0))) (h .f) x mo g refl refl c (λ m. tt) (refl, w .0 .2) (mo .stage .0, omega arith)))
       (λ i. taken p (source k (one-back h′ 0)) (h .f) x mo g refl refl c (λ m. tt) (refl, (w .0 .0, u, w .0 .2)) (mo .stage, i))
     where
       not-none : (x : ℕ) → some x ≡ none → ⊥

@@ -54,9 +54,9 @@ PushOk x (push-store b) q = Room q b 1 × (at q b ≡ x)
 abbrev pub FifoOk : FifoPopStage → Queue → Type 0
 FifoOk fifo-back q = Unit
 FifoOk (fifo-front b) q = b ≡ q .back
-FifoOk (fifo-add b d) q = (b ≡ q .back) × (q .back ≤ q .front + d)
+FifoOk (fifo-add b others) q = (b ≡ q .back) × (q .back ≤ q .front + suc others)
 FifoOk (fifo-restore f) q = (q .front ≡ suc f) × (f ≡ q .back)
-FifoOk (fifo-read f d) q = q .back ≤ q .front + d
+FifoOk (fifo-read f others) q = q .back ≤ q .front + suc others
 
 abbrev pub LifoOk : LifoPopStage → Queue → Type 0
 LifoOk lifo-back q = Unit
@@ -64,10 +64,10 @@ LifoOk (lifo-front b) q = b ≡ q .back
 LifoOk (lifo-store b) q = (b ≡ q .back) × (0 < b)
 LifoOk (lifo-reload b) q = suc (q .back) ≡ b
 LifoOk (lifo-restore b) q = (suc (q .back) ≡ b) × (q .front ≡ b)
-LifoOk (lifo-last b f) q = (suc (q .back) ≡ b) × (suc f ≡ b) × (f ≤ q .front)
-LifoOk (lifo-exchange b f v) q = (suc (q .back) ≡ b) × (suc f ≡ b) × (f ≤ q .front) × (q .front ≡ f → v ≡ at q f)
+LifoOk (lifo-last b) q = (suc (q .back) ≡ b) × (q .back ≤ q .front)
+LifoOk (lifo-exchange b v) q = (suc (q .back) ≡ b) × (q .back ≤ q .front) × (q .front ≡ q .back → v ≡ at q (q .back))
 LifoOk (lifo-won b v) q = (suc (q .back) ≡ b) × (q .front ≡ b)
-LifoOk (lifo-read b d) q = (suc (q .back) ≡ b) × (q .back ≤ q .front + d)
+LifoOk (lifo-read b others) q = (suc (q .back) ≡ b) × (q .back ≤ q .front + suc others)
 
 abbrev pub HaulOk : Haul → Queue → Type 0
 HaulOk h q = Room q (h .b) (h .n)

@@ -15,9 +15,9 @@ use Rattle.model.specs.Stage.{empty, success, retry, moved, twoNumbers, 
 abbrev pub loFifo : FifoPopStage → Queue → ℕ
 loFifo fifo-back q = q .front
 loFifo (fifo-front b) q = q .front
-loFifo (fifo-add b d) q = q .front
+loFifo (fifo-add b others) q = q .front
 loFifo (fifo-restore f) q = f
-loFifo (fifo-read f d) q = q .front
+loFifo (fifo-read f others) q = q .front
 
 -- the logical front: one less while a FIFO pop is about to put front back
 abbrev pub lo : Stage → Queue → ℕ
@@ -38,10 +38,10 @@ hiLifo (lifo-front b) q = q .back
 hiLifo (lifo-store b) q = q .back
 hiLifo (lifo-reload b) q = b
 hiLifo (lifo-restore b) q = b
-hiLifo (lifo-last b f) q = b
-hiLifo (lifo-exchange b f v) q = b
+hiLifo (lifo-last b) q = b
+hiLifo (lifo-exchange b v) q = b
 hiLifo (lifo-won b v) q = b
-hiLifo (lifo-read b d) q = q .back
+hiLifo (lifo-read b others) q = q .back
 
 -- the logical back: one more from a LIFO pop's store until its decision
 abbrev pub hi : Stage → Queue → ℕ
@@ -69,9 +69,9 @@ hauled h i q j = handOf (h .hand) j + stand (at q) (h .b) (h .b + i) j
 abbrev pub heldFifo : FifoPopStage → Queue → ℕ → ℕ
 heldFifo fifo-back q j = 0
 heldFifo (fifo-front b) q j = 0
-heldFifo (fifo-add b d) q j = 0
+heldFifo (fifo-add b others) q j = 0
 heldFifo (fifo-restore f) q j = 0
-heldFifo (fifo-read f d) q j = one (at q f) j
+heldFifo (fifo-read f others) q j = one (at q f) j
 
 abbrev pub heldLifo : LifoPopStage → Queue → ℕ → ℕ
 heldLifo lifo-back q j = 0
@@ -79,10 +79,10 @@ heldLifo (lifo-front b) q j = 0
 heldLifo (lifo-store b) q j = 0
 heldLifo (lifo-reload b) q j = 0
 heldLifo (lifo-restore b) q j = 0
-heldLifo (lifo-last b f) q j = 0
-heldLifo (lifo-exchange b f v) q j = 0
+heldLifo (lifo-last b) q j = 0
+heldLifo (lifo-exchange b v) q j = 0
 heldLifo (lifo-won b v) q j = one v j
-heldLifo (lifo-read b d) q j = one (at q (q .back)) j
+heldLifo (lifo-read b others) q j = one (at q (q .back)) j
 
 -- between the two writes of a swap the far cell counts as if the second were done
 abbrev pub heldOwn : OwnStage → Queue → ℕ → ℕ

@@ -70,25 +70,25 @@ pub data PushStage : Type 0 where
   push-write : (b : ℕ) → PushStage
   push-store : (b : ℕ) → PushStage
 
--- d: the difference first seen
+-- others: the difference first seen, less one
 pub data FifoPopStage : Type 0 where
   fifo-back : FifoPopStage
   fifo-front : (b : ℕ) → FifoPopStage
-  fifo-add : (b d : ℕ) → FifoPopStage
+  fifo-add : (b others : ℕ) → FifoPopStage
   fifo-restore : (f : ℕ) → FifoPopStage
-  fifo-read : (f d : ℕ) → FifoPopStage
+  fifo-read : (f others : ℕ) → FifoPopStage
 
--- d: the difference b - 1 - f
+-- others: the difference b - 1 - f, less one; the last job is at b - 1
 pub data LifoPopStage : Type 0 where
   lifo-back : LifoPopStage
   lifo-front : (b : ℕ) → LifoPopStage
   lifo-store : (b : ℕ) → LifoPopStage
   lifo-reload : (b : ℕ) → LifoPopStage
   lifo-restore : (b : ℕ) → LifoPopStage
-  lifo-last : (b f : ℕ) → LifoPopStage
-  lifo-exchange : (b f job : ℕ) → LifoPopStage
+  lifo-last : (b : ℕ) → LifoPopStage
+  lifo-exchange : (b job : ℕ) → LifoPopStage
   lifo-won : (b job : ℕ) → LifoPopStage
-  lifo-read : (b d : ℕ) → LifoPopStage
+  lifo-read : (b others : ℕ) → LifoPopStage
 
 -- who pops: a pop, or a batch and pop from the own queue
 pub data Popper : Type 0 where

@@ -78,12 +78,12 @@ shrinkStep g w v z q =
 
 unfoldable pub fifoStep : Offer → Popper → FifoPopStage → Queue → Out
 fifoStep g w fifo-back q = going q (fifoPop w (fifo-front (q .back)))
-fifoStep g w (fifo-front b) q = pick (leb b (q .front)) (ended q (nothing w)) (going q (fifoPop w (fifo-add b (b - q .front))))
-fifoStep g w (fifo-add b d) q =
+fifoStep g w (fifo-front b) q = pick (leb b (q .front)) (ended q (nothing w)) (going q (fifoPop w (fifo-add b (b - q .front - 1))))
+fifoStep g w (fifo-add b others) q =
     going (setFront q (suc (q .front)))
-    (pick (ltb b (suc (q .front))) (fifoPop w (fifo-restore (q .front))) (fifoPop w (fifo-read (q .front) d)))
+    (pick (ltb b (suc (q .front))) (fifoPop w (fifo-restore (q .front))) (fifoPop w (fifo-read (q .front) others)))
 fifoStep g w (fifo-restore f) q = ended (setFront q f) (nothing w)
-fifoStep g w (fifo-read f d) q = reading g w d (at q f) q
+fifoStep g w (fifo-read f others) q = reading g w (suc others) (at q f) q
 
 unfoldable pub lifoStep : Offer → Popper → LifoPopStage → Queue → Out
 lifoStep g w lifo-back q = going q (lifoPop w (lifo-front (q .back)))
@@ -92,13 +92,13 @@ lifoStep g w (lifo-store b) q = going (setBack q (b - 1)) (lifoPop w (lifo-reloa
 lifoStep g w (lifo-reload b) q =
     going q
     (pick (ltb (b - 1) (q .front)) (lifoPop w (lifo-restore b))
-    (pick (leb (b - 1) (q .front)) (lifoPop w (lifo-last b (q .front))) (lifoPop w (lifo-read b (b - 1 - q .front)))))
+    (pick (leb (b - 1) (q .front)) (lifoPop w (lifo-last b)) (lifoPop w (lifo-read b (b - 1 - q .front - 1)))))
 lifoStep g w (lifo-restore b) q = ended (setBack q b) (nothing w)
-lifoStep g w (lifo-last b f) q = going q (lifoPop w (lifo-exchange b f (at q (b - 1))))
-lifoStep g w (lifo-exchange b f v) q =
-    pick (eqb (q .front) f) (going (setFront q (suc f)) (lifoPop w (lifo-won b v))) (going q (lifoPop w (lifo-restore b)))
+lifoStep g w (lifo-last b) q = going q (lifoPop w (lifo-exchange b (at q (b - 1))))
+lifoStep g w (lifo-exchange b v) q =
+    pick (eqb (q .front) (b - 1)) (going (setFront q (suc (b - 1))) (lifoPop w (lifo-won b v))) (going q (lifoPop w (lifo-restore b)))
 lifoStep g w (lifo-won b v) q = ended (setBack q b) (job w v)
-lifoStep g w (lifo-read b d) q = reading g w d (at q (b - 1)) q
+lifoStep g w (lifo-read b others) q = reading g w (suc others) (at q (b - 1)) q
 
 -- ---- steal, length, and a batch from the own queue
 
@@ -174,7 +174,7 @@ stopped fo k h i q = pick (isNone (h .hand) && eqb i 0) (ended q retry) (going q
 
 -- one by one, i written: load back for the next, or stop after n
 abbrev pub turning : Flavour → ℕ → Haul → ℕ → Queue → Out
-turning fo k h i q = pick (leb (h .n) i) (stopped fo k h (h .n) q) (going q (source k (one-back h i)))
+turning fo k h i q = pick (leb (h .n) i) (stopped fo k h i q) (going q (source k (one-back h i)))
 
 -- the exchange for a job was won: what to write, and what is then in hand
 abbrev pub toWrite : InHand → ℕ → ℕ

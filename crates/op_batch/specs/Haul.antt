@@ -1,10 +1,10 @@
 -- What both halves of a batch share: how many jobs it wants, which stage comes next, which cells it works on.
-use Prim.Native.Nat.{ℕ, suc, _+_, _-_, _/_, min}
+use Prim.Native.Nat.{ℕ, _+_, _-_, _/_, _%_, _^_, min}
 use mathlib.Core.Bool.{Bool, true, false, _&&_}
 use lib.Dec.{leb, eqb}
 use Rattle.base.specs.Tests.{pick}
 use Rattle.index.specs.declared.Index.{Index}
-use Rattle.index.specs.Index.{plusOf}
+use Rattle.index.specs.Index.{plusOf, minusOf}
 use Rattle.ring.specs.declared.Ring.{Ring}
 use Rattle.steal.specs.declared.Steal.the-variants.{Success, Retry}
 use Rattle.core.specs.declared.queue.Flavor.{Flavor}
@@ -83,14 +83,14 @@ abbrev pub copying : Further → TakeStage
 copying (Next i) = All (A.Copy i)
 copying Over = All A.ReloadRing
 
--- the i-th of n from the other end
-abbrev pub mirrorOf : ℕ → ℕ → ℕ
-mirrorOf n i = n - suc i
+-- the i-th of n from the other end: own back + n - 1 - i, which wraps
+abbrev pub mirrorOf : Haul → ℕ → Index
+mirrorOf h i = minusOf (minusOf (plusOf (h .b) (h .n)) 1) i
 
 -- the own index that takes the i-th of n
 abbrev pub slotOf : Flavor → Haul → ℕ → Index
 slotOf Fifo h i = plusOf (h .b) i
-slotOf Lifo h i = plusOf (h .b) (mirrorOf (h .n) i)
+slotOf Lifo h i = mirrorOf h i
 
 -- ---- LIFO source, n times
 
@@ -112,10 +112,13 @@ isNothing (Job job) = false
 abbrev pub stopped : Flavor → Haul → ℕ → Queue → BatchOut
 stopped own h i q = pick (isNothing (h .«in_hand») && eqb i 0) (Ended q (Stolen Retry)) (putAt q (withCount h i) (landing own i))
 
--- load back for the next, or stop after n
-abbrev pub turning : Flavor → Haul → Further → Queue → BatchOut
-turning own h (Next i) q = takeAt q h (One (E.ReloadBack i))
-turning own h Over q = stopped own h (h .n) q
+-- i are written: load back for the next, or stop after n
+abbrev pub turning : Flavor → Haul → ℕ → Queue → BatchOut
+turning own h i q = pick (leb (h .n) i) (stopped own h i q) (takeAt q h (One (E.ReloadBack i)))
+
+-- one more than i are written; a number of 64 bits wraps
+abbrev pub writtenAfter : ℕ → ℕ
+writtenAfter i = (i + 1) % 2 ^ 64
 
 -- the exchange for a job was won: what to write (of a batch and pop the PREVIOUS job), and what is then in hand
 abbrev pub toWrite : InHand → ℕ → ℕ

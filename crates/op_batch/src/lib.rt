@@ -1,7 +1,7 @@
 // What both halves of a batch share: how many jobs it wants, which stage comes next, which cells it works on.
 ghost use mathlib.Core.Path.{_≡_};
 ghost use Prim.Native.Nat.{_+_, min};
-ghost use Rattle.op_batch.specs.Haul.{takeAt, putAt, reserveAt, wantedOf, reserving as reservingOf, withJob, onward as onwardOf, withCount, turnOf, firstOf, copying as copyingOf, mirrorOf, slotOf, swapping as swappingOf, landing as landingOf, isNothing, stopped as stoppedOf, turning as turningOf, toWrite, nextInHand, answerOf};
+ghost use Rattle.op_batch.specs.Haul.{takeAt, putAt, reserveAt, wantedOf, reserving as reservingOf, withJob, onward as onwardOf, withCount, turnOf, firstOf, copying as copyingOf, mirrorOf, slotOf, swapping as swappingOf, landing as landingOf, isNothing, stopped as stoppedOf, turning as turningOf, writtenAfter, toWrite, nextInHand, answerOf};
 use core::answer::Answer;
 use core::queue::Flavor;
 use core::queue::Queue;
@@ -164,11 +164,11 @@ pub fn copying(further: Further) -> TakeStage
     }
 }
 
-// The i-th of n from the other end.
-pub fn mirror(n: u64, i: u64) -> u64
-    ensures { λ r. ⌜ r ≡ mirrorOf n i ⌝ }
+// The own index of the i-th job from the other end.
+pub fn mirror(haul: Haul, i: u64) -> Index
+    ensures { λ r. ⌜ r ≡ mirrorOf haul i ⌝ }
 {
-    if i < n { n - 1 - i } else { 0 }
+    haul.b.plus(haul.n).minus(1).minus(i)
 }
 
 // The own index that takes the i-th job copied: into a LIFO queue last first.
@@ -177,7 +177,7 @@ pub fn slot(own: Flavor, haul: Haul, i: u64) -> Index
 {
     match own {
         Flavor::Fifo => haul.b.plus(i),
-        Flavor::Lifo => haul.b.plus(mirror(haul.n, i)),
+        Flavor::Lifo => mirror(haul, i),
     }
 }
 
@@ -224,18 +224,21 @@ pub fn stopped(own: Flavor, haul: Haul, i: u64, q: Queue) -> BatchOut
     put_at(q, with_count(haul, i), landing(own, i))
 }
 
-// Load the back again for the next, or stop after n.
-pub fn turning(own: Flavor, haul: Haul, further: Further, q: Queue) -> BatchOut
-    ensures { λ r. ⌜ r ≡ turningOf own haul further q ⌝ }
+// So many are written: load the back again for the next, or stop after n.
+pub fn turning(own: Flavor, haul: Haul, i: u64, q: Queue) -> BatchOut
+    ensures { λ r. ⌜ r ≡ turningOf own haul i q ⌝ }
 {
-    match further {
-        Further::Next(i) => {
-            return take_at(q, haul, TakeStage::One(OneStage::ReloadBack { i }));
-        }
-        Further::Over => {
-            return stopped(own, haul, haul.n, q);
-        }
+    if haul.n <= i {
+        return stopped(own, haul, i, q);
     }
+    take_at(q, haul, TakeStage::One(OneStage::ReloadBack { i }))
+}
+
+// One more than so many are written.
+pub fn written_after(i: u64) -> u64
+    ensures { λ r. ⌜ r ≡ writtenAfter i ⌝ }
+{
+    std::num::wrapping_add_u64(i, 1)
 }
 
 // The exchange for a job was won: what to write, of a batch and pop the previous job.

@@ -20,12 +20,12 @@ use Rattle.core.specs.declared.answer.Answer.the-variants.{Stolen}
 use Rattle.core.specs.Out.{withFront}
 use Rattle.op_batch.specs.declared.BatchOut.{BatchOut}
 use Rattle.op_batch.specs.declared.BatchOut.the-variants.{Ended}
-use Rattle.op_batch.specs.Haul.{takeAt, putAt, turnOf, onward, stopped, turning, toWrite, nextInHand}
+use Rattle.op_batch.specs.Haul.{takeAt, putAt, onward, stopped, turning, toWrite, nextInHand}
 
 -- own is the flavour of the thread's own queue
 abbrev pub oneStepOf : Flavor → Haul → OneStage → Queue → List ℕ → BatchOut
 oneStepOf own h (ExchangeFirst job) q cells =
-    pick (sameB (q .front) (h .f)) (turning own (onward h (Job job)) (turnOf (h .n) 0) (withFront q (plusOf (h .f) 1))) (Ended q (Stolen Retry))
+    pick (sameB (q .front) (h .f)) (turning own (onward h (Job job)) 0 (withFront q (plusOf (h .f) 1))) (Ended q (Stolen Retry))
 oneStepOf own h (ReloadBack i) q cells = pick (emptyB (q .back) (h .f)) (stopped own h i q) (takeAt q h (One (Read i)))
 oneStepOf own h (Read i) q cells = takeAt q h (One (ReloadRing i (readOf cells (h .ring) (h .f))))
 oneStepOf own h (ReloadRing i job) q cells =

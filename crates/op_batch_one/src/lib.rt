@@ -17,7 +17,6 @@ use op_batch::put_at;
 use op_batch::stopped;
 use op_batch::take_at;
 use op_batch::to_write;
-use op_batch::turn;
 use op_batch::turning;
 use steal::Steal;
 
@@ -29,7 +28,7 @@ pub fn one_step(own: Flavor, haul: Haul, at: OneStage, q: Queue, pool: &[u64]) -
             if q.front.is_same(haul.f) {
                 let mut r = q;
                 r.front = haul.f.plus(1);
-                return turning(own, onward(haul, InHand::Job(job)), turn(haul.n, 0), r);
+                return turning(own, onward(haul, InHand::Job(job)), 0, r);
             }
             return BatchOut::Ended(q, Answer::Stolen(Steal::Retry));
         }

@@ -10,7 +10,7 @@ use Rattle.core.specs.declared.stage.PutStage.the-variants.{WriteCopy, WriteOne
 use Rattle.core.specs.Out.{withBack}
 use Rattle.op_batch.specs.declared.BatchOut.{BatchOut}
 use Rattle.op_batch.specs.declared.BatchOut.the-variants.{Ended}
-use Rattle.op_batch.specs.Haul.{takeAt, putAt, turnOf, copying, slotOf, turning, answerOf}
+use Rattle.op_batch.specs.Haul.{takeAt, putAt, turnOf, copying, slotOf, turning, writtenAfter, answerOf}
 use Rattle.op_batch_put.specs.Swap.{swapOf}
 
 -- with the pool's cells
@@ -18,6 +18,6 @@ abbrev pub putOf : Haul → PutStage → Queue → List ℕ → BatchOut × List
 putOf h (WriteCopy i job) q cells =
     (takeAt q h (copying (turnOf (h .n) (i + 1))), writtenOf cells (q .ring) (slotOf (q .flavor) h i) job)
 putOf h (WriteOne i job) q cells =
-    (turning (q .flavor) h (turnOf (h .n) (i + 1)) q, writtenOf cells (q .ring) (plusOf (h .b) i) job)
+    (turning (q .flavor) h (writtenAfter i) q, writtenOf cells (q .ring) (plusOf (h .b) i) job)
 putOf h (Swap x at) q cells = (putAt q h (swapOf h x at q cells .0), swapOf h x at q cells .1)
 putOf h StoreBack q cells = (Ended (withBack q (plusOf (h .b) (h .n))) (answerOf (h .«in_hand»)), cells)

@@ -14,6 +14,7 @@ use op_batch::slot;
 use op_batch::take_at;
 use op_batch::turn_after;
 use op_batch::turning;
+use op_batch::written_after;
 
 pub mod swap;
 
@@ -30,7 +31,7 @@ pub fn put_step(haul: Haul, at: PutStage, q: Queue, pool: &mut [u64]) -> BatchOu
         PutStage::WriteOne { i, job } => {
             let flavor = q.flavor;
             write(pool, q.ring, haul.b.plus(i), job);
-            return turning(flavor, haul, turn_after(haul.n, i), q);
+            return turning(flavor, haul, written_after(i), q);
         }
         PutStage::Swap { x, at } => {
             return put_at(q, haul, swap_step(haul, x, at, q, pool));

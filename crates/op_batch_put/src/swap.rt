@@ -1,6 +1,6 @@
 // What was taken into a FIFO queue one by one is reversed, by swaps from the outside in.
 ghost use mathlib.Core.Path.{_≡_};
-ghost use Rattle.op_batch_put.specs.Swap.{nearOf, farOf, swapOf};
+ghost use Rattle.op_batch_put.specs.Swap.{nearOf, swapOf};
 use cells::read;
 use cells::write;
 use core::queue::Queue;
@@ -12,17 +12,11 @@ use op_batch::mirror;
 use op_batch::swapping;
 use op_batch::turn_after;
 
-// The two cells of a swap: the one nearer the front, and the other.
+// The cell of a swap that is nearer the front; the other is its mirror image.
 fn near_cell(haul: Haul, x: u64) -> Index
     ensures { λ r. ⌜ r ≡ nearOf haul x ⌝ }
 {
     haul.b.plus(x)
-}
-
-fn far_cell(haul: Haul, x: u64) -> Index
-    ensures { λ r. ⌜ r ≡ farOf haul x ⌝ }
-{
-    haul.b.plus(mirror(haul.n, x))
 }
 
 // The queue stays as it is.
@@ -38,7 +32,7 @@ pub fn swap_step(haul: Haul, x: u64, at: SwapStage, q: Queue, pool: &mut [u64]) 
             }
         }
         SwapStage::ReadFar { near } => {
-            let far = read(pool, q.ring, far_cell(haul, x));
+            let far = read(pool, q.ring, mirror(haul, x));
             PutStage::Swap {
                 x,
                 at: SwapStage::WriteNear { near, far },
@@ -52,7 +46,7 @@ pub fn swap_step(haul: Haul, x: u64, at: SwapStage, q: Queue, pool: &mut [u64]) 
             }
         }
         SwapStage::WriteFar { near } => {
-            write(pool, q.ring, far_cell(haul, x), near);
+            write(pool, q.ring, mirror(haul, x), near);
             swapping(turn_after(haul.n / 2, x))
         }
     }

@@ -8,6 +8,7 @@ use core::stage::PopStage;
 use core::stage::Popper;
 use op_shrink::PopOut;
 use op_shrink::nothing_for;
+use op_shrink::others;
 use op_shrink::reading;
 use ring::Ring;
 
@@ -30,27 +31,27 @@ pub fn fifo_pop_step(popper: Popper, at: FifoPopStage, q: Queue, pool: &[u64]) -
             if b.is_empty(q.front) {
                 return PopOut::Ended(q, nothing_for(popper));
             }
-            let seen = b.length(q.front);
-            return fifo(q, FifoPopStage::FetchAdd { b, seen });
+            let others = others(b, q.front);
+            return fifo(q, FifoPopStage::FetchAdd { b, others });
         }
-        FifoPopStage::FetchAdd { b, seen } => {
+        FifoPopStage::FetchAdd { b, others } => {
             let f = q.front;
             let mut r = q;
             r.front = f.plus(1);
             if b.is_behind(r.front) {
                 return fifo(r, FifoPopStage::RestoreFront { f });
             }
-            return fifo(r, FifoPopStage::Read { f, seen });
+            return fifo(r, FifoPopStage::Read { f, others });
         }
         FifoPopStage::RestoreFront { f } => {
             let mut r = q;
             r.front = f;
             return PopOut::Ended(r, nothing_for(popper));
         }
-        FifoPopStage::Read { f, seen } => {
+        FifoPopStage::Read { f, others } => {
             let capacity = q.ring.capacity;
             let job = read(pool, q.ring, f);
-            let few = (Ring::SMALLEST < capacity) & (seen <= capacity as u64 / 4);
+            let few = (Ring::SMALLEST < capacity) & (others < capacity as u64 / 4);
             return reading(few, popper, job, q);
         }
     }

@@ -1,6 +1,6 @@
 // A pop from the back.
 ghost use mathlib.Core.Path.{_≡_};
-ghost use Rattle.op_pop_lifo.specs.LifoPop.{lifo as lifoOf, decided as decidedOf, lifoPopOf};
+ghost use Rattle.op_pop_lifo.specs.LifoPop.{lifo as lifoOf, decided as decidedOf, fewB, lifoPopOf};
 use cells::read;
 use core::queue::Queue;
 use core::stage::LifoPopStage;
@@ -9,6 +9,7 @@ use core::stage::Popper;
 use index::Index;
 use op_shrink::PopOut;
 use op_shrink::nothing_for;
+use op_shrink::others;
 use op_shrink::reading;
 use ring::Ring;
 
@@ -27,10 +28,20 @@ fn decided(b: Index, f: Index) -> LifoPopStage
         return LifoPopStage::RestoreBack { b };
     }
     if last.is_empty(f) {
-        return LifoPopStage::ReadLast { b, f };
+        return LifoPopStage::ReadLast { b };
     }
-    let left = last.length(f);
-    LifoPopStage::Read { b, left }
+    let others = others(last, f);
+    LifoPopStage::Read { b, others }
+}
+
+// d, which is one more than the others, is below a quarter of the capacity, and that is not the smallest.
+fn is_few(others: u64, capacity: usize) -> bool
+    ensures { λ r. ⌜ r ≡ fewB others capacity ⌝ }
+{
+    if capacity <= Ring::SMALLEST {
+        return false;
+    }
+    others < capacity as u64 / 4 - 1
 }
 
 // A step of a pop from the back of queue q.
@@ -61,11 +72,12 @@ pub fn lifo_pop_step(popper: Popper, at: LifoPopStage, q: Queue, pool: &[u64]) -
             r.back = b;
             return PopOut::Ended(r, nothing_for(popper));
         }
-        LifoPopStage::ReadLast { b, f } => {
+        LifoPopStage::ReadLast { b } => {
             let job = read(pool, q.ring, b.minus(1));
-            return lifo(q, LifoPopStage::Exchange { b, f, job });
+            return lifo(q, LifoPopStage::Exchange { b, job });
         }
-        LifoPopStage::Exchange { b, f, job } => {
+        LifoPopStage::Exchange { b, job } => {
+            let f = b.minus(1);
             if q.front.is_same(f) {
                 let mut r = q;
                 r.front = f.plus(1);
@@ -78,11 +90,9 @@ pub fn lifo_pop_step(popper: Popper, at: LifoPopStage, q: Queue, pool: &[u64]) -
             r.back = b;
             return reading(false, popper, job, r);
         }
-        LifoPopStage::Read { b, left } => {
-            let capacity = q.ring.capacity;
+        LifoPopStage::Read { b, others } => {
             let job = read(pool, q.ring, b.minus(1));
-            let few = (Ring::SMALLEST < capacity) & (left < capacity as u64 / 4);
-            return reading(few, popper, job, q);
+            return reading(is_few(others, q.ring.capacity), popper, job, q);
         }
     }
 }

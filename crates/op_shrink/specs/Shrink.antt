@@ -1,8 +1,10 @@
 -- What both pops share: how they answer, and the shrinking.
-use Prim.Native.Nat.{ℕ, _/_}
+use Prim.Native.Nat.{ℕ, _-_, _/_}
 use mathlib.Core.Bool.{Bool}
 use mathlib.Core.List.{List}
 use Rattle.base.specs.Tests.{pick}
+use Rattle.index.specs.declared.Index.{Index}
+use Rattle.index.specs.Index.{lengthOf}
 use Rattle.steal.specs.declared.Steal.the-variants.{Empty, Success}
 use Rattle.core.specs.declared.queue.Queue.{Queue}
 use Rattle.core.specs.declared.stage.ResizeStage.{ResizeStage}
@@ -18,6 +20,10 @@ use Rattle.core.specs.declared.out.Resized.the-variants as R
 use Rattle.op_resize.specs.Resize.{resizeOf}
 use Rattle.op_shrink.specs.declared.PopOut.{PopOut}
 use Rattle.op_shrink.specs.declared.PopOut.the-variants.{Going, Ended}
+
+-- a difference above 0, less one
+abbrev pub othersOf : Index → Index → ℕ
+othersOf b f = lengthOf b f - 1
 
 -- of a batch and pop from the own queue, nothing becomes Empty
 abbrev pub nothingFor : Popper → Answer

@@ -1,6 +1,6 @@
 // What both pops share: how they answer, and the shrinking.
 ghost use mathlib.Core.Path.{_≡_};
-ghost use Rattle.op_shrink.specs.Shrink.{nothingFor, jobFor, reading as readingOf, shrunk as shrunkOf, shrinkOf};
+ghost use Rattle.op_shrink.specs.Shrink.{othersOf, nothingFor, jobFor, reading as readingOf, shrunk as shrunkOf, shrinkOf};
 use core::answer::Answer;
 use core::out::Claim;
 use core::out::Resized;
@@ -8,6 +8,7 @@ use core::queue::Queue;
 use core::stage::PopStage;
 use core::stage::Popper;
 use core::stage::ResizeStage;
+use index::Index;
 use op_resize::resize_step;
 use ring::Ring;
 use steal::Steal;
@@ -16,6 +17,14 @@ use steal::Steal;
 pub enum PopOut {
     Going(Queue, PopStage),
     Ended(Queue, Answer),
+}
+
+// The difference less one, of a queue that is not empty: how many stand beside one of its jobs.
+pub fn others(back: Index, front: Index) -> u64
+    ensures { λ r. ⌜ r ≡ othersOf back front ⌝ }
+{
+    let length = back.length(front);
+    if length == 0 { 0 } else { length - 1 }
 }
 
 // The answer of a pop that found nothing.

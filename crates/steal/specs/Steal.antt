@@ -9,11 +9,11 @@ use Rattle.steal.specs.declared.Steal.the-variants.{Empty, Success, Retr
 use Rattle.steal.specs.declared.Success.{Success as Found}
 use Rattle.steal.specs.declared.Success.the-variants.{Job, Nothing}
 
--- the number of each answer, and its value
+-- the number of each answer, which is its kind among the answers of all calls, and its value
 abbrev pub numberOf : Steal → ℕ
-numberOf Empty = 0
-numberOf (Success job) = 1
-numberOf Retry = 2
+numberOf Empty = 4
+numberOf (Success job) = 5
+numberOf Retry = 6
 
 abbrev pub valueOf : Steal → ℕ
 valueOf Empty = 0
@@ -61,7 +61,7 @@ collected (Retry ∷ l) = afterRetry (collected l)
 
 -- the answer with this number and value; Empty where no answer has the number
 unfoldable pub ofNumber : ℕ → ℕ → Steal
-ofNumber k v = pick (eqb k 1) (Success v) (pick (eqb k 2) Retry Empty)
+ofNumber k v = pick (eqb k 5) (Success v) (pick (eqb k 6) Retry Empty)
 
 -- a list of answers, by their numbers and their values, as long as the shorter of the two
 unfoldable pub answers : List ℕ → List ℕ → List Steal

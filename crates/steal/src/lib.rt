@@ -74,14 +74,14 @@ impl Steal {
         }
     }
 
-    // The number of each answer.
+    // The number of each answer: its kind among the answers of all calls.
     pub fn number(self) -> u64
         ensures { λ r. ⌜ r ≡ numberOf self ⌝ }
     {
         match self {
-            Steal::Empty => 0,
-            Steal::Success(_) => 1,
-            Steal::Retry => 2,
+            Steal::Empty => 4,
+            Steal::Success(_) => 5,
+            Steal::Retry => 6,
         }
     }
 
@@ -100,10 +100,10 @@ impl Steal {
     pub fn of(number: u64, value: u64) -> Steal
         ensures { λ r. ⌜ r ≡ ofNumber number value ⌝ }
     {
-        if number == 1 {
+        if number == 5 {
             return Steal::Success(value);
         }
-        if number == 2 {
+        if number == 6 {
             return Steal::Retry;
         }
         Steal::Empty

@@ -60,9 +60,9 @@ pop-fifo s p = go s ∙ ap P.Fifo p
     go : (s : FifoPopStage) → popOf (fifoWords s) ≡ P.Fifo (fifoOf (fifoWords s))
     go D.LoadBack = refl
     go (D.LoadFront b) = refl
-    go (D.FetchAdd b seen) = refl
+    go (D.FetchAdd b others) = refl
     go (D.RestoreFront f) = refl
-    go (D.Read f seen) = refl
+    go (D.Read f others) = refl
 
 pub pop-lifo : (s : LifoPopStage) → lifoOf (lifoWords s) ≡ s → popOf (lifoWords s) ≡ P.Lifo s
 pop-lifo s p = go s ∙ ap P.Lifo p
@@ -73,10 +73,10 @@ pop-lifo s p = go s ∙ ap P.Lifo p
     go (L.StoreBack b) = refl
     go (L.ReloadFront b) = refl
     go (L.RestoreBack b) = refl
-    go (L.ReadLast b f) = refl
-    go (L.Exchange b f job) = refl
+    go (L.ReadLast b) = refl
+    go (L.Exchange b job) = refl
     go (L.RestoreBackWon b job) = refl
-    go (L.Read b left) = refl
+    go (L.Read b others) = refl
 
 pub pop-shrink : (job : ℕ) (z : ResizeStage) → resizeOf (resizeWords z) ≡ z → popOf (withJob job (resizeWords z)) ≡ P.Shrink job z
 pop-shrink job z p = go z ∙ ap (P.Shrink job) p

@@ -24,9 +24,9 @@ popperOf u = pick (eqb u 0) Pop BatchAndPop
 abbrev pub fifoWords : FifoPopStage → StageWords
 fifoWords D.LoadBack = bare 0
 fifoWords (D.LoadFront b) = withB b (bare 1)
-fifoWords (D.FetchAdd b seen) = withN seen (withB b (bare 2))
+fifoWords (D.FetchAdd b others) = withN others (withB b (bare 2))
 fifoWords (D.RestoreFront f) = withF f (bare 3)
-fifoWords (D.Read f seen) = withN seen (withF f (bare 4))
+fifoWords (D.Read f others) = withN others (withF f (bare 4))
 
 abbrev pub fifoOf : StageWords → FifoPopStage
 fifoOf w =
@@ -42,10 +42,10 @@ lifoWords (L.LoadFront b) = withB b (bare 21)
 lifoWords (L.StoreBack b) = withB b (bare 22)
 lifoWords (L.ReloadFront b) = withB b (bare 23)
 lifoWords (L.RestoreBack b) = withB b (bare 24)
-lifoWords (L.ReadLast b f) = withF f (withB b (bare 25))
-lifoWords (L.Exchange b f job) = withJob job (withF f (withB b (bare 26)))
+lifoWords (L.ReadLast b) = withB b (bare 25)
+lifoWords (L.Exchange b job) = withJob job (withB b (bare 26))
 lifoWords (L.RestoreBackWon b job) = withJob job (withB b (bare 27))
-lifoWords (L.Read b left) = withN left (withB b (bare 28))
+lifoWords (L.Read b others) = withN others (withB b (bare 28))
 
 abbrev pub lifoOf : StageWords → LifoPopStage
 lifoOf w =
@@ -54,8 +54,8 @@ lifoOf w =
     (pick (eqb (w .step) 22) (L.StoreBack (indexOf (w .b)))
     (pick (eqb (w .step) 23) (L.ReloadFront (indexOf (w .b)))
     (pick (eqb (w .step) 24) (L.RestoreBack (indexOf (w .b)))
-    (pick (eqb (w .step) 25) (L.ReadLast (indexOf (w .b)) (indexOf (w .f)))
-    (pick (eqb (w .step) 26) (L.Exchange (indexOf (w .b)) (indexOf (w .f)) (w .job))
+    (pick (eqb (w .step) 25) (L.ReadLast (indexOf (w .b)))
+    (pick (eqb (w .step) 26) (L.Exchange (indexOf (w .b)) (w .job))
     (pick (eqb (w .step) 27) (L.RestoreBackWon (indexOf (w .b)) (w .job))
     (L.Read (indexOf (w .b)) (w .n)))))))))
 

@@ -44,10 +44,10 @@ pub fn fifo_words(at: FifoPopStage) -> StageWords
             w.b = index_word(b);
             return w;
         }
-        FifoPopStage::FetchAdd { b, seen } => {
+        FifoPopStage::FetchAdd { b, others } => {
             w.step = 2;
             w.b = index_word(b);
-            w.n = seen;
+            w.n = others;
             return w;
         }
         FifoPopStage::RestoreFront { f } => {
@@ -55,10 +55,10 @@ pub fn fifo_words(at: FifoPopStage) -> StageWords
             w.f = index_word(f);
             return w;
         }
-        FifoPopStage::Read { f, seen } => {
+        FifoPopStage::Read { f, others } => {
             w.step = 4;
             w.f = index_word(f);
-            w.n = seen;
+            w.n = others;
             return w;
         }
     }
@@ -77,12 +77,12 @@ pub fn fifo_of(w: StageWords) -> FifoPopStage
         return FifoPopStage::LoadFront { b };
     }
     if step == 2 {
-        return FifoPopStage::FetchAdd { b, seen: w.n };
+        return FifoPopStage::FetchAdd { b, others: w.n };
     }
     if step == 3 {
         return FifoPopStage::RestoreFront { f };
     }
-    FifoPopStage::Read { f, seen: w.n }
+    FifoPopStage::Read { f, others: w.n }
 }
 
 pub fn lifo_words(at: LifoPopStage) -> StageWords
@@ -114,16 +114,14 @@ pub fn lifo_words(at: LifoPopStage) -> StageWords
             w.b = index_word(b);
             return w;
         }
-        LifoPopStage::ReadLast { b, f } => {
+        LifoPopStage::ReadLast { b } => {
             w.step = 25;
             w.b = index_word(b);
-            w.f = index_word(f);
             return w;
         }
-        LifoPopStage::Exchange { b, f, job } => {
+        LifoPopStage::Exchange { b, job } => {
             w.step = 26;
             w.b = index_word(b);
-            w.f = index_word(f);
             w.job = job;
             return w;
         }
@@ -133,10 +131,10 @@ pub fn lifo_words(at: LifoPopStage) -> StageWords
             w.job = job;
             return w;
         }
-        LifoPopStage::Read { b, left } => {
+        LifoPopStage::Read { b, others } => {
             w.step = 28;
             w.b = index_word(b);
-            w.n = left;
+            w.n = others;
             return w;
         }
     }
@@ -147,7 +145,6 @@ pub fn lifo_of(w: StageWords) -> LifoPopStage
 {
     let step = w.step;
     let b = index_of(w.b);
-    let f = index_of(w.f);
     if step == 20 {
         return LifoPopStage::LoadBack;
     }
@@ -164,15 +161,15 @@ pub fn lifo_of(w: StageWords) -> LifoPopStage
         return LifoPopStage::RestoreBack { b };
     }
     if step == 25 {
-        return LifoPopStage::ReadLast { b, f };
+        return LifoPopStage::ReadLast { b };
     }
     if step == 26 {
-        return LifoPopStage::Exchange { b, f, job: w.job };
+        return LifoPopStage::Exchange { b, job: w.job };
     }
     if step == 27 {
         return LifoPopStage::RestoreBackWon { b, job: w.job };
     }
-    LifoPopStage::Read { b, left: w.n }
+    LifoPopStage::Read { b, others: w.n }
 }
 
 pub fn pop_words(at: PopStage) -> StageWords

@@ -1,4 +1,4 @@
--- The offset is i or its mirror image, by the flavour.
+-- The index is i further on or the mirror image of that, by the flavour.
 use borrow.Author.Needs.{needs}
 use Rattle.op_batch.proofs.slot.Statement.{statement}
 use Rattle.op_batch.proofs.slot.Tie as tie
@@ -15,14 +15,11 @@ enum-told-2 c = search needs
 mirror-requires : tie.Need-mirror-requires
 mirror-requires c κs = search needs
 
-plus-requires-2 : tie.Need-plus-requires-2
-plus-requires-2 c κs = search needs
-
 returns : tie.Need-returns
 returns c = rw (c .before .enum-told .given .1, c .plus .ensures)
 
 returns-2 : tie.Need-returns-2
-returns-2 c = rw (c .before .before .enum-told2 .given .1, c .plus2 .ensures, c .before .mirror .ensures)
+returns-2 c = rw (c .before .enum-told2 .given .1, c .mirror .ensures)
 
 pub slot-spec : {M : Type 1} → statement M
 slot-spec =
@@ -32,6 +29,5 @@ slot-spec =
     plus-requires
     enum-told-2
     mirror-requires
-    plus-requires-2
     returns
     returns-2)

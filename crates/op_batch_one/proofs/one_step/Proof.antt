@@ -16,14 +16,11 @@ plus-requires c κs = search needs
 onward-requires : tie.Need-onward-requires
 onward-requires c κs = search needs
 
-turn-requires : tie.Need-turn-requires
-turn-requires c κs = search needs
-
 turning-requires : tie.Need-turning-requires
 turning-requires c κs = search needs
 
 returns : tie.Need-returns
-returns c = rw (c .before .before .before .before .before .before .before .at .given .1, c .turning .ensures, c .before .turn .ensures, c .before .before .onward .ensures, c .before .before .before .plus .ensures, ← c .before .before .before .before .before .is-same .ensures, c .before .before .before .before .if1 .taken)
+returns c = rw (c .before .before .before .before .before .before .at .given .1, c .turning .ensures, c .before .onward .ensures, c .before .before .plus .ensures, ← c .before .before .before .before .is-same .ensures, c .before .before .before .if1 .taken)
 
 returns-2 : tie.Need-returns-2
 returns-2 c = rw (c .before .before .before .at .given .1, ← c .before .is-same .ensures, c .if1 .left)
@@ -111,7 +108,6 @@ one-step-spec =
     is-same-requires
     plus-requires
     onward-requires
-    turn-requires
     turning-requires
     returns
     returns-2

@@ -36,8 +36,8 @@ plus-requires c κs = search needs
 write-requires-2 : tie.Need-write-requires-2
 write-requires-2 c κs = search needs
 
-turn-after-requires-2 : tie.Need-turn-after-requires-2
-turn-after-requires-2 c κs = search needs
+written-after-requires : tie.Need-written-after-requires
+written-after-requires c κs = search needs
 
 turning-requires : tie.Need-turning-requires
 turning-requires c κs = search needs
@@ -46,7 +46,7 @@ same-length-2 : tie.Need-same-length-2
 same-length-2 c = search needs
 
 returns-2 : tie.Need-returns-2
-returns-2 c = rw (c .before .before .before .before .before .before .before .before .at2 .given .1, c .turning .ensures, c .before .turn-after2 .ensures, c .before .before .before .before .write2 .ensures, c .before .before .before .before .before .plus .ensures)
+returns-2 c = rw (c .before .before .before .before .before .before .before .before .at2 .given .1, c .turning .ensures, c .before .written-after .ensures, c .before .before .before .before .write2 .ensures, c .before .before .before .before .before .plus .ensures)
 
 enum-known-at-3 : tie.Need-enum-known-at-3
 enum-known-at-3 c = search needs
@@ -90,7 +90,7 @@ put-step-spec =
     enum-known-at-2
     plus-requires
     write-requires-2
-    turn-after-requires-2
+    written-after-requires
     turning-requires
     same-length-2
     returns-2

@@ -1,5 +1,6 @@
 -- Each arm of `fifo_pop_step` is its clause of `fifoPopOf`, each test the definition's own, by what its calls ensure.
 use borrow.Author.Needs.{needs}
+use native.Mathlib.Numerals.{add-one}
 use Rattle.op_pop_fifo.proofs.fifo_pop_step.Statement.{statement}
 use Rattle.op_pop_fifo.proofs.fifo_pop_step.Tie as tie
 
@@ -24,14 +25,14 @@ nothing-for-requires c κs = search needs
 returns-2 : tie.Need-returns-2
 returns-2 c = rw (c .before .before .before .before .at .given .1, c .nothing-for .ensures, ← c .before .before .is-empty .ensures, c .before .if1 .taken)
 
-length-requires : tie.Need-length-requires
-length-requires c κs = search needs
+others-requires : tie.Need-others-requires
+others-requires c κs = search needs
 
 fifo-requires-2 : tie.Need-fifo-requires-2
 fifo-requires-2 c κs = search needs
 
 returns-3 : tie.Need-returns-3
-returns-3 c = rw (c .before .before .before .before .before .at .given .1, c .fifo2 .ensures, c .before .length .ensures, ← c .before .before .before .is-empty .ensures, c .before .before .if1 .left)
+returns-3 c = rw (c .before .before .before .before .before .at .given .1, c .fifo2 .ensures, c .before .others .ensures, ← c .before .before .before .is-empty .ensures, c .before .before .if1 .left)
 
 enum-known-at-2 : tie.Need-enum-known-at-2
 enum-known-at-2 c = search needs
@@ -73,7 +74,7 @@ reading-requires : tie.Need-reading-requires
 reading-requires c κs = search needs
 
 returns-7 : tie.Need-returns-7
-returns-7 c = rw (c .before .before .before .at4 .given .1, c .reading .ensures, c .before .read .ensures)
+returns-7 c = rw (c .before .before .before .at4 .given .1, c .reading .ensures, c .before .read .ensures, add-one)
 
 pub fifo-pop-step-spec : {M : Type 1} → statement M
 fifo-pop-step-spec =
@@ -86,7 +87,7 @@ fifo-pop-step-spec =
     is-empty-requires
     nothing-for-requires
     returns-2
-    length-requires
+    others-requires
     fifo-requires-2
     returns-3
     enum-known-at-2

@@ -18,11 +18,11 @@ is-empty-requires c κs = search needs
 returns-2 : tie.Need-returns-2
 returns-2 c = rw (← c .before .before .before .before .minus .ensures, ← c .before .before .before .is-behind .ensures, ← c .before .is-empty .ensures, c .if2 .taken, c .before .before .if1 .left)
 
-length-requires : tie.Need-length-requires
-length-requires c κs = search needs
+others-requires : tie.Need-others-requires
+others-requires c κs = search needs
 
 returns-3 : tie.Need-returns-3
-returns-3 c = rw (c .length .ensures, ← c .before .before .before .before .before .minus .ensures, ← c .before .before .before .before .is-behind .ensures, ← c .before .before .is-empty .ensures, c .before .if2 .left, c .before .before .before .if1 .left)
+returns-3 c = rw (c .others .ensures, ← c .before .before .before .before .before .minus .ensures, ← c .before .before .before .before .is-behind .ensures, ← c .before .before .is-empty .ensures, c .before .if2 .left, c .before .before .before .if1 .left)
 
 pub decided-spec : {M : Type 1} → statement M
 decided-spec =
@@ -33,5 +33,5 @@ decided-spec =
     returns
     is-empty-requires
     returns-2
-    length-requires
+    others-requires
     returns-3)

@@ -81,6 +81,9 @@ returns-7 c = rw (c .before .before .before .before .at5 .given .1, c .lifo5 .en
 enum-known-at-6 : tie.Need-enum-known-at-6
 enum-known-at-6 c = search needs
 
+minus-requires-3 : tie.Need-minus-requires-3
+minus-requires-3 c κs = search needs
+
 is-same-requires : tie.Need-is-same-requires
 is-same-requires c κs = search needs
 
@@ -91,13 +94,13 @@ lifo-requires-6 : tie.Need-lifo-requires-6
 lifo-requires-6 c κs = search needs
 
 returns-8 : tie.Need-returns-8
-returns-8 c = rw (c .before .before .before .before .before .at6 .given .1, c .lifo6 .ensures, c .before .plus .ensures, ← c .before .before .before .is-same .ensures, c .before .before .if2 .taken)
+returns-8 c = rw (c .before .before .before .before .before .before .at6 .given .1, c .lifo6 .ensures, c .before .plus .ensures, ← c .before .before .before .before .minus3 .ensures, ← c .before .before .before .is-same .ensures, c .before .before .if2 .taken)
 
 lifo-requires-7 : tie.Need-lifo-requires-7
 lifo-requires-7 c κs = search needs
 
 returns-9 : tie.Need-returns-9
-returns-9 c = rw (c .before .before .before .before .at6 .given .1, c .lifo7 .ensures, ← c .before .before .is-same .ensures, c .before .if2 .left)
+returns-9 c = rw (c .before .before .before .before .before .at6 .given .1, c .lifo7 .ensures, ← c .before .before .before .minus3 .ensures, ← c .before .before .is-same .ensures, c .before .if2 .left)
 
 enum-known-at-7 : tie.Need-enum-known-at-7
 enum-known-at-7 c = search needs
@@ -111,17 +114,20 @@ returns-10 c = rw (c .before .before .at7 .given .1, c .reading .ensures)
 enum-known-at-8 : tie.Need-enum-known-at-8
 enum-known-at-8 c = search needs
 
-minus-requires-3 : tie.Need-minus-requires-3
-minus-requires-3 c κs = search needs
+minus-requires-4 : tie.Need-minus-requires-4
+minus-requires-4 c κs = search needs
 
 read-requires-2 : tie.Need-read-requires-2
 read-requires-2 c κs = search needs
+
+is-few-requires : tie.Need-is-few-requires
+is-few-requires c κs = search needs
 
 reading-requires-2 : tie.Need-reading-requires-2
 reading-requires-2 c κs = search needs
 
 returns-11 : tie.Need-returns-11
-returns-11 c = rw (c .before .before .before .before .at8 .given .1, c .reading2 .ensures, c .before .read2 .ensures, c .before .before .minus3 .ensures)
+returns-11 c = rw (c .before .before .before .before .before .at8 .given .1, c .reading2 .ensures, c .before .is-few .ensures, c .before .before .read2 .ensures, c .before .before .before .minus4 .ensures)
 
 pub lifo-pop-step-spec : {M : Type 1} → statement M
 lifo-pop-step-spec =
@@ -153,6 +159,7 @@ lifo-pop-step-spec =
     lifo-requires-5
     returns-7
     enum-known-at-6
+    minus-requires-3
     is-same-requires
     plus-requires
     lifo-requires-6
@@ -163,7 +170,8 @@ lifo-pop-step-spec =
     reading-requires
     returns-10
     enum-known-at-8
-    minus-requires-3
+    minus-requires-4
     read-requires-2
+    is-few-requires
     reading-requires-2
     returns-11)

@@ -15,8 +15,8 @@ read-requires c κs = search needs
 enum-known-at : tie.Need-enum-known-at
 enum-known-at c = search needs
 
-far-cell-requires : tie.Need-far-cell-requires
-far-cell-requires c κs = search needs
+mirror-requires : tie.Need-mirror-requires
+mirror-requires c κs = search needs
 
 read-requires-2 : tie.Need-read-requires-2
 read-requires-2 c κs = search needs
@@ -33,8 +33,8 @@ write-requires c κs = search needs
 enum-known-at-3 : tie.Need-enum-known-at-3
 enum-known-at-3 c = search needs
 
-far-cell-requires-2 : tie.Need-far-cell-requires-2
-far-cell-requires-2 c κs = search needs
+mirror-requires-2 : tie.Need-mirror-requires-2
+mirror-requires-2 c κs = search needs
 
 write-requires-2 : tie.Need-write-requires-2
 write-requires-2 c κs = search needs
@@ -55,7 +55,7 @@ same-length-2 : tie.Need-same-length-2
 same-length-2 c = search needs
 
 returns-2 : tie.Need-returns-2
-returns-2 c = rw (c .before .before .before .before .at .given .1, c .read2 .ensures, c .before .far-cell .ensures)
+returns-2 c = rw (c .before .before .before .before .at .given .1, c .read2 .ensures, c .before .mirror .ensures)
 
 same-length-3 : tie.Need-same-length-3
 same-length-3 c = search needs
@@ -67,7 +67,7 @@ same-length-4 : tie.Need-same-length-4
 same-length-4 c = search needs
 
 returns-4 : tie.Need-returns-4
-returns-4 c = rw (c .before .before .before .before .before .before .before .before .before .at3 .given .1, c .swapping .ensures, c .before .turn-after .ensures, c .before .before .before .before .before .write2 .ensures, c .before .before .before .before .before .before .far-cell2 .ensures)
+returns-4 c = rw (c .before .before .before .before .before .before .before .before .before .at3 .given .1, c .swapping .ensures, c .before .turn-after .ensures, c .before .before .before .before .before .write2 .ensures, c .before .before .before .before .before .before .mirror2 .ensures)
 
 pub swap-step-spec : {M : Type 1} → statement M
 swap-step-spec =
@@ -77,13 +77,13 @@ swap-step-spec =
     near-cell-requires
     read-requires
     enum-known-at
-    far-cell-requires
+    mirror-requires
     read-requires-2
     enum-known-at-2
     near-cell-requires-2
     write-requires
     enum-known-at-3
-    far-cell-requires-2
+    mirror-requires-2
     write-requires-2
     turn-after-requires
     swapping-requires

@@ -67,53 +67,47 @@ enum-known-at-5 c = search needs
 index-word-requires-5 : tie.Need-index-word-requires-5
 index-word-requires-5 c κs = search needs
 
-index-word-requires-6 : tie.Need-index-word-requires-6
-index-word-requires-6 c κs = search needs
-
 returns-6 : tie.Need-returns-6
 returns-6 c =
     rw
-    (c .before .before .before .at5 .given .1, c .before .before .before .before .before .bare .ensures)
-    (rw (c .index-word6 .ensures .0, c .before .index-word5 .ensures .0), rw (c .index-word6 .ensures .1, c .before .index-word5 .ensures .1))
+    (c .before .before .at5 .given .1, c .before .before .before .before .bare .ensures)
+    (rw (c .index-word5 .ensures .0), rw (c .index-word5 .ensures .1))
 
 enum-known-at-6 : tie.Need-enum-known-at-6
 enum-known-at-6 c = search needs
 
-index-word-requires-7 : tie.Need-index-word-requires-7
-index-word-requires-7 c κs = search needs
-
-index-word-requires-8 : tie.Need-index-word-requires-8
-index-word-requires-8 c κs = search needs
+index-word-requires-6 : tie.Need-index-word-requires-6
+index-word-requires-6 c κs = search needs
 
 returns-7 : tie.Need-returns-7
 returns-7 c =
     rw
-    (c .before .before .before .at6 .given .1, c .before .before .before .before .before .bare .ensures)
-    (rw (c .index-word8 .ensures .0, c .before .index-word7 .ensures .0), rw (c .index-word8 .ensures .1, c .before .index-word7 .ensures .1))
+    (c .before .before .at6 .given .1, c .before .before .before .before .bare .ensures)
+    (rw (c .index-word6 .ensures .0), rw (c .index-word6 .ensures .1))
 
 enum-known-at-7 : tie.Need-enum-known-at-7
 enum-known-at-7 c = search needs
 
-index-word-requires-9 : tie.Need-index-word-requires-9
-index-word-requires-9 c κs = search needs
+index-word-requires-7 : tie.Need-index-word-requires-7
+index-word-requires-7 c κs = search needs
 
 returns-8 : tie.Need-returns-8
 returns-8 c =
     rw
     (c .before .before .at7 .given .1, c .before .before .before .before .bare .ensures)
-    (rw (c .index-word9 .ensures .0), rw (c .index-word9 .ensures .1))
+    (rw (c .index-word7 .ensures .0), rw (c .index-word7 .ensures .1))
 
 enum-known-at-8 : tie.Need-enum-known-at-8
 enum-known-at-8 c = search needs
 
-index-word-requires-10 : tie.Need-index-word-requires-10
-index-word-requires-10 c κs = search needs
+index-word-requires-8 : tie.Need-index-word-requires-8
+index-word-requires-8 c κs = search needs
 
 returns-9 : tie.Need-returns-9
 returns-9 c =
     rw
     (c .before .before .at8 .given .1, c .before .before .before .before .bare .ensures)
-    (rw (c .index-word10 .ensures .0), rw (c .index-word10 .ensures .1))
+    (rw (c .index-word8 .ensures .0), rw (c .index-word8 .ensures .1))
 
 pub lifo-words-spec : {M : Type 1} → statement M
 lifo-words-spec =
@@ -136,15 +130,13 @@ lifo-words-spec =
     returns-5
     enum-known-at-5
     index-word-requires-5
-    index-word-requires-6
     returns-6
     enum-known-at-6
-    index-word-requires-7
-    index-word-requires-8
+    index-word-requires-6
     returns-7
     enum-known-at-7
-    index-word-requires-9
+    index-word-requires-7
     returns-8
     enum-known-at-8
-    index-word-requires-10
+    index-word-requires-8
     returns-9)

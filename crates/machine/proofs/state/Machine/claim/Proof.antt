@@ -3,9 +3,6 @@ use borrow.Author.Needs.{needs}
 use Rattle.machine.proofs.state.Machine.claim.Statement.{statement}
 use Rattle.machine.proofs.state.Machine.claim.Tie as tie
 
-stage-requires : tie.Need-stage-requires
-stage-requires c κs = search needs
-
 claims-requires : tie.Need-claims-requires
 claims-requires c κs = search needs
 
@@ -13,11 +10,10 @@ free-ring-requires : tie.Need-free-ring-requires
 free-ring-requires c κs = search needs
 
 returns : tie.Need-returns
-returns c = rw (c .free-ring .ensures, ← c .before .before .before .stage .ensures, ← c .before .before .claims .ensures, c .before .if1 .taken)
+returns c = rw (c .free-ring .ensures, ← c .before .before .claims .ensures, c .before .if1 .taken)
 
 returns-2 : tie.Need-returns-2
-returns-2 c = rw (← c .before .before .stage .ensures, ← c .before .claims .ensures, c .if1 .left)
+returns-2 c = rw (← c .before .claims .ensures, c .if1 .left)
 
 pub claim-spec : {M : Type 1} → statement M
-claim-spec =
-    tie.close (tie.spec stage-requires claims-requires free-ring-requires returns returns-2)
+claim-spec = tie.close (tie.spec claims-requires free-ring-requires returns returns-2)
