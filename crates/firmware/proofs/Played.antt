@@ -18,10 +18,10 @@ use Rattle.machine.specs.Step.{gateOf, stepOf}
 use Rattle.slots.specs.Slots.{indexWord, indexOf}
 use Rattle.words.specs.Slices.{machineB}
 use Rattle.model.specs.Count.{one, upd}
-use Rattle.theorem.specs.History.{Lent, pool, other, standing, AtRest}
+use Rattle.theorem.specs.History.{Lent, pool, other, Lends, standing, AtRest}
 use Rattle.export.specs.Words.{machineIn, machinePut}
 use Rattle.export.specs.Exported.{setupWords, SetupTold, askedWords}
-use Rattle.firmware.specs.Rows.{Entry, Promised, Row, wordsAt, poolAt, RowLends, acceptedIn, answeredIn}
+use Rattle.firmware.specs.Rows.{Entry, Promised, Row, wordsAt, poolAt, callsIn, acceptedIn, answeredIn}
 use Rattle.firmware.proofs.Rows.{conserved-in-words}
 
 -- a FIFO queue with ring 0 in place 0, front 0 and this back; thread 0 at a step of an operation that has a number, and at back 0
@@ -106,8 +106,8 @@ own-pool l e = subst (λ (x : Lent). is-pool x) e tt
     is-pool pool = Unit
     is-pool (other l) = ⊥
 
-lends : RowLends 1 a-push
-unfolding RowLends
+lends : Lends 1 (callsIn a-push)
+unfolding Lends callsIn kindOf
 lends = (λ l e h. own-pool l e, (λ l e h. own-pool l e, (λ l e h. own-pool l e, (λ l e h. own-pool l e, (λ l e h. own-pool l e, tt)))))
 
 -- so the theorem speaks of it
@@ -115,7 +115,7 @@ pub holds-of-it : (answeredIn a-push 7 ≤ acceptedIn (λ t. 0) a-push 7)
     × (AtRest (machineIn (words 1 0 0 0)) → acceptedIn (λ t. 0) a-push 7 ≡ answeredIn a-push 7 + standing (machineIn (words 1 0 0 0)) (cells 7) 7)
 unfolding wordsAt poolAt
 holds-of-it =
-    conserved-in-words (replicate 91 0) (cells 0) 1 0 1 refl (words 0 0 0 0) done (set-up .0) (set-up .1) refl a-push a-push-is-a-row (omega arith) lends 7
+    conserved-in-words (replicate 91 0) (cells 0) 1 0 1 refl (words 0 0 0 0) done (set-up .0) (set-up .1) a-push a-push-is-a-row (omega arith) lends 7
 
 pub accepted-once : (acceptedIn (λ t. 0) a-push 7 ≡ 1) × (answeredIn a-push 7 ≡ 0)
 unfolding acceptedIn answeredIn kindOf one upd

@@ -10,6 +10,7 @@ use lib.ListN.{length, getD}
 use borrow.Author.Tests.{eq-eqb}
 use Rattle.base.specs.Tests.{pick}
 use Rattle.core.specs.declared.queue.Flavor.{Flavor}
+use Rattle.core.specs.declared.answer.Answer.{Answer}
 use Rattle.core.specs.declared.answer.Answer.the-variants.{Done}
 use Rattle.gate.specs.declared.Gate.{Gate}
 use Rattle.gate.specs.declared.Gate.the-variants.{Open, Shut}
@@ -26,13 +27,14 @@ use Rattle.machine.specs.Sound.{soundB}
 use Rattle.slots.specs.Queue.{flavorsOf}
 use Rattle.slots.specs.Answer.{answerWords}
 use Rattle.words.specs.Slices.{machineSize, machineB}
-use Rattle.theorem.specs.History.{Lent, pool, other, Call, asks, lent, poolAfter, calledOf, Lends, Session, runBy, run, session, jobsAfter}
-use Rattle.theorem.specs.History.{acceptedBy, answeredBy, acceptedFrom, accepted, answered, standing, AtRest}
-use Rattle.theorem.proofs.Runs.{Started, started}
+use Rattle.theorem.specs.History.{Call, asks, lent, poolAfter, calledOf, Lends, Session, runBy, run, session, jobsAfter}
+use Rattle.theorem.specs.History.{acceptedBy, answeredBy, acceptedFrom, accepted, answered, standing, AtRest, Reached}
+use Rattle.theorem.proofs.Runs.{setup-cells}
+use Rattle.theorem.proofs.Refused.{lent-back}
 use Rattle.theorem.proofs.Theorem.{conserved, reached-sound}
 use Rattle.export.specs.Words.{machineIn, Told}
 use Rattle.export.specs.Exported.{unsoundWords, setWords, setupWords, SetupTold, calledWords, askedWords}
-use Rattle.firmware.specs.Rows.{Entry, Promised, Row, wordsAt, poolAt, RowLends, asked, callsIn, answerKind, acceptedAs, answeredAs, wishedAs}
+use Rattle.firmware.specs.Rows.{Entry, Promised, Row, wordsAt, poolAt, asked, callsIn, answerKind, acceptedAs, answeredAs, wishedAs}
 use Rattle.firmware.specs.Rows.{jobsIn, acceptedIn, answeredIn}
 use Rattle.firmware.proofs.Counts.{accepted-is, answered-is, jobs-are}
 
@@ -54,10 +56,6 @@ asked-is w cells m is t r = rw (is .0, is .1)
 
 none-more : (n : ℕ) → 0 + n ≡ n
 none-more n = omega arith
-
-lent-back : (l : Lent) (cells : List ℕ) → poolAfter l cells (lent l cells) ≡ cells
-lent-back pool cells = refl
-lent-back (other x) cells = refl
 
 module _ (w cells : List ℕ) (m : Machine) (is : Told w m) (e : Entry) (es : List Entry)
     (rest : (w′ cells′ : List ℕ) (m′ : Machine) → Told w′ m′ → Row w′ cells′ es → IsRun w′ cells′ m′ es) where
@@ -114,18 +112,7 @@ unfolding Row wordsAt poolAt callsIn acceptedIn answeredIn runBy acceptedFrom an
 row-is w cells m is [] row = record { machine = is; same-pool = refl; same-accepted = λ jobs j. refl; same-answered = λ j. refl }
 row-is w cells m is (e ∷ es) row = one-more w cells m is e es (λ w′ cells′ m′ is′. row-is w′ cells′ m′ is′ es) (kindOf (e .kind)) (row .0) (row .1)
 
--- ---- what a row's calls lend, and how many they are
-
-module _ (n : ℕ) where
-  asked-lends : (e : Entry) (es : List Entry) (r : KindRead) → RowLends n (e ∷ es) → Lends n (callsIn es) → Lends n (asked e r (callsIn es))
-  unfolding Lends RowLends
-  asked-lends e es (Kind k) h rest = (h .0, rest)
-  asked-lends e es Wrong h rest = rest
-
-  pub lends-are : (es : List Entry) → RowLends n es → Lends n (callsIn es)
-  unfolding Lends RowLends callsIn
-  lends-are [] h = tt
-  lends-are (e ∷ es) h = asked-lends e es (kindOf (e .kind)) h (lends-are es (h .1))
+-- ---- how many a row's calls are
 
 asked-length : (e : Entry) (r : KindRead) (cs : List Call) (n : ℕ) → length cs ≤ n → length (asked e r cs) ≤ suc n
 asked-length e (Kind k) cs n h = omega arith
@@ -150,13 +137,10 @@ unfolding setupWords setupOf
 done-is w cells k bits n size e = set-up-is (setupTests k n (length cells)) k (flavorsOf bits) n cells
     (subst (λ (b : Bool). pick b (setWords w (setupOf k (flavorsOf bits) n cells)) (w, unsoundWords) .1 ≡ answerWords Done) (eq-eqb _ _ size) e)
 
--- 91 words, whatever they are, and the cells, whatever they are; a setup that answered Done and left `first`; a row of fewer than 2^62 calls
+-- 91 words, whatever they are, and the cells, whatever they are; a setup that left `first`, refused or not; a row of fewer than 2^62 calls
 module _ (w cells : List ℕ) (k bits n : ℕ) (size : length w ≡ machineSize) (first answer : List ℕ)
-    (is-set-up : (first, answer) ≡ setupWords w cells k bits n) (set-up-told : SetupTold w cells k bits n first) (answers-done : answer ≡ answerWords Done)
-    (es : List Entry) (row : Row first cells es) (few : length es < 2 ^ 62) (lends : RowLends n es) where
-  done : setupOf k (flavorsOf bits) n cells .called .answer ≡ Done
-  done = done-is w cells k bits n size (sym (ap (λ x. x .1) is-set-up) ∙ answers-done)
-
+    (is-set-up : (first, answer) ≡ setupWords w cells k bits n) (set-up-told : SetupTold w cells k bits n first)
+    (es : List Entry) (row : Row first cells es) (few : length es < 2 ^ 62) (lends : Lends n (callsIn es)) where
   abbrev s : Session
   s = session k (flavorsOf bits) n cells (callsIn es)
 
@@ -165,10 +149,9 @@ module _ (w cells : List ℕ) (k bits n : ℕ) (size : length w ≡ machineSize)
 
   pub is-session : Tells (wordsAt first es) (poolAt cells es) (λ jobs j. acceptedIn jobs es j) (answeredIn es) s
   is-session =
-      let same : setupOf k (flavorsOf bits) n cells .cells ≡ cells = ap (λ (a : After). a .cells) (started k (flavorsOf bits) n cells done .is) in
       subst (λ (x : List ℕ). Tells (wordsAt first es) (poolAt cells es) (λ jobs j. acceptedIn jobs es j) (answeredIn es)
       (run (setupOf k (flavorsOf bits) n cells .called .machine) x (callsIn es)))
-      (sym same)
+      (sym (setup-cells k (flavorsOf bits) n cells))
       (row-is first cells (setupOf k (flavorsOf bits) n cells .called .machine) (set-up-told size) es row)
 
   -- no job lost, none doubled, by the numbers that crossed the interface
@@ -176,12 +159,15 @@ module _ (w cells : List ℕ) (k bits n : ℕ) (size : length w ≡ machineSize)
       × (AtRest m → acceptedIn (λ t. 0) es j ≡ answeredIn es j + standing m (poolAt cells es) j)
   conserved-in-words j =
       let fewer = calls-length es in
-      let c = conserved k (flavorsOf bits) n cells (callsIn es) done (omega arith) (lends-are n es lends) j in
+      let c = conserved k (flavorsOf bits) n cells (callsIn es) (omega arith) lends j in
       rw (is-session .same-accepted (λ t. 0) j, is-session .same-answered j, is-session .machine .1, is-session .same-pool) c
 
-  -- the words are a machine's, and it is sound: no call on them gets 3
-  pub sound-in-words : (machineB (wordsAt first es) ≡ true) × (soundB m ≡ true)
-  sound-in-words =
-      let fewer = calls-length es in
-      let r = reached-sound k (flavorsOf bits) n cells (callsIn es) done (omega arith) (lends-are n es lends) in
-      (is-session .machine .0, rw (is-session .machine .1) (r .0))
+  -- the words are a machine's; after a setup that answered Done it is sound, and no call on them gets 3
+  pub sound-in-words : (machineB (wordsAt first es) ≡ true) × (answer ≡ answerWords Done → soundB m ≡ true)
+  sound-in-words = (is-session .machine .0, λ answers-done. rw (is-session .machine .1) (reached-done answers-done .0))
+    where
+      reached-done : answer ≡ answerWords Done → Reached Done cells s
+      reached-done h =
+          let fewer = calls-length es in
+          let done = done-is w cells k bits n size (sym (ap (λ x. x .1) is-set-up) ∙ h) in
+          subst (λ (a : Answer). Reached a cells s) done (reached-sound k (flavorsOf bits) n cells (callsIn es) (omega arith) lends)

@@ -4,17 +4,16 @@
 use mathlib.Core.Path.{_≡_}
 use mathlib.Core.Bool.{_||_}
 use mathlib.Core.List.{List, [], _∷_}
-use Prim.Native.Nat.{ℕ, _+_, _*_}
+use Prim.Native.Nat.{ℕ, _+_}
 use lib.Dec.{eqb}
-use lib.ListN.{length, getD}
+use lib.ListN.{getD}
 use Rattle.base.specs.Tests.{pick}
-use Rattle.cells.specs.Cells.{placeCells}
 use Rattle.kinds.specs.declared.Kind.the-variants.{Step, Push, Pop, OwnLength, Length, Steal, Batch, BatchAndPop}
 use Rattle.kinds.specs.declared.KindRead.{KindRead}
 use Rattle.kinds.specs.declared.KindRead.the-variants.{Kind, Wrong}
 use Rattle.kinds.specs.Kinds.{kindOf, requestOf}
 use Rattle.model.specs.Count.{one, upd}
-use Rattle.theorem.specs.History.{Lent, other, Call, asks, lent, poolAfter}
+use Rattle.theorem.specs.History.{Lent, Call, asks, lent, poolAfter}
 use Rattle.export.specs.Exported.{callWords, CallTold}
 
 -- ---- rows
@@ -48,11 +47,6 @@ wordsAt w (e ∷ es) = wordsAt (e .words) es
 unfoldable pub poolAt : List ℕ → List Entry → List ℕ
 poolAt pool [] = pool
 poolAt pool (e ∷ es) = poolAt (poolAfter (e .lends) pool (e .cells)) es
-
--- no call lends another list of the length that the pool must have
-unfoldable pub RowLends : ℕ → List Entry → Type 0
-RowLends places [] = Unit
-RowLends places (e ∷ es) = ((l : List ℕ) → e .lends ≡ other l → length l ≡ places * placeCells → ⊥) × RowLends places es
 
 -- ---- the session's calls: kinds that are no call's ask for nothing
 

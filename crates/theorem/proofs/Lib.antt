@@ -1,5 +1,6 @@
 pub mod OneCall
 pub mod Runs
+pub mod Refused
 pub mod Theorem
 pub mod Wrong
 pub mod Named

@@ -14,6 +14,7 @@ use Rattle.index.proofs.Laws.{plus-is, length-is}
 use Rattle.cells.specs.Cells.{placeCells, readOf}
 use Rattle.core.specs.declared.queue.Flavor.{Flavor}
 use Rattle.core.specs.declared.answer.Answer.the-variants as B
+use Rattle.core.specs.declared.answer.Refusal.{Refusal}
 use Rattle.core.specs.declared.answer.Refusal.the-variants as K
 use Rattle.core.specs.declared.out.Claim.{Claim as CodeClaim}
 use Rattle.core.specs.declared.out.Claim.the-variants as J
@@ -24,8 +25,8 @@ use Rattle.gate.specs.declared.Request.the-variants.{Step, Begin}
 use Rattle.gate.specs.declared.Gate.{Gate}
 use Rattle.gate.specs.declared.Gate.the-variants.{Open, Shut}
 use Rattle.machine.specs.declared.state.Machine.{Machine}
-use Rattle.machine.specs.State.{After, after, queueAt, stageAt, counted}
-use Rattle.machine.specs.Setup.{freshMachine, setupOf}
+use Rattle.machine.specs.State.{After, after, refused, queueAt, stageAt, counted}
+use Rattle.machine.specs.Setup.{zeroMachine, freshMachine, setupOf}
 use Rattle.machine.specs.Claim.{claimOf}
 use Rattle.gate.specs.Gate.{beginTests, stepTests, thenGate}
 use Rattle.machine.specs.Step.{gateOf, passing, ran, stepOf}
@@ -123,23 +124,31 @@ module _ (n : ℕ) (fl : ℕ → Flavour) (places : ℕ) where
 
 -- ---- setup
 
-not-done : (r : _) → B.Refused r ≡ B.Done → ⊥
-not-done r e = let z : _≡_ {A = ℕ} 0 1 = cc in omega arith
-
 pub record Started (k : ℕ) (flavors : List Flavor) (n : ℕ) (cells : List ℕ) : Type 0 where
   pub counts : countsB k n ≡ true
   pub pool-length : length cells ≡ n * placeCells
   pub is : setupOf k flavors n cells ≡ after (freshMachine k flavors n) B.Done cells
 
-pub started : (k : ℕ) (flavors : List Flavor) (n : ℕ) (cells : List ℕ) → setupOf k flavors n cells .called .answer ≡ B.Done
-    → Started k flavors n cells
+pub data SetUp (k : ℕ) (flavors : List Flavor) (n : ℕ) (cells : List ℕ) : Type 0 where
+  set-up : Started k flavors n cells → SetUp k flavors n cells
+  turned-away : (r : Refusal) → setupOf k flavors n cells ≡ refused zeroMachine r cells → SetUp k flavors n cells
+
+pub setting-up : (k : ℕ) (flavors : List Flavor) (n : ℕ) (cells : List ℕ) → SetUp k flavors n cells
 unfolding setupOf
-started k flavors n cells h = go (countsB k n) refl (eqb (length cells) (n * placeCells)) refl
+setting-up k flavors n cells = go (countsB k n) refl (eqb (length cells) (n * placeCells)) refl
   where
-    go : (x : Bool) → countsB k n ≡ x → (y : Bool) → eqb (length cells) (n * placeCells) ≡ y → Started k flavors n cells
-    go true e true f = record { counts = e; pool-length = eqb-true (length cells) (n * placeCells) f; is = rw (e, f) }
-    go true e false f = let z : B.Refused K.PoolLength ≡ B.Done = rw (e, f) at h in absurd (not-done K.PoolLength z)
-    go false e y f = let z : B.Refused K.Counts ≡ B.Done = rw e at h in absurd (not-done K.Counts z)
+    go : (x : Bool) → countsB k n ≡ x → (y : Bool) → eqb (length cells) (n * placeCells) ≡ y → SetUp k flavors n cells
+    go true e true f = set-up (record { counts = e; pool-length = eqb-true (length cells) (n * placeCells) f; is = rw (e, f) })
+    go true e false f = turned-away K.PoolLength (rw (e, f))
+    go false e y f = turned-away K.Counts (rw e)
+
+-- a setup writes no cell
+pub setup-cells : (k : ℕ) (flavors : List Flavor) (n : ℕ) (cells : List ℕ) → setupOf k flavors n cells .cells ≡ cells
+setup-cells k flavors n cells = go (setting-up k flavors n cells)
+  where
+    go : SetUp k flavors n cells → setupOf k flavors n cells .cells ≡ cells
+    go (set-up start) = ap (λ (a : After). a .cells) (start .is)
+    go (turned-away r is) = ap (λ (a : After). a .cells) is
 
 -- ---- what stands in the queues at rest
 

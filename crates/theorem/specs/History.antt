@@ -2,6 +2,7 @@
 -- left. What was accepted and what was answered is counted from the calls and their answers alone.
 use mathlib.Core.Path.{_≡_}
 use mathlib.Core.List.{List, [], _∷_}
+use mathlib.Core.Bool.{true}
 use Prim.Native.Nat.{ℕ, _+_, _*_, _<_}
 use lib.Dec.{T}
 use lib.ListN.{length}
@@ -20,7 +21,8 @@ use Rattle.gate.specs.declared.Request.{Request}
 use Rattle.gate.specs.declared.Request.the-variants.{Step, Begin}
 use Rattle.machine.specs.declared.state.Machine.{Machine}
 use Rattle.machine.specs.State.{After, queueAt, stageAt}
-use Rattle.machine.specs.Setup.{setupOf}
+use Rattle.machine.specs.Setup.{zeroMachine, setupOf}
+use Rattle.machine.specs.Sound.{soundB}
 use Rattle.machine.specs.Call.{callOf}
 use Rattle.model.specs.Count.{one, upd, stand, sumTo}
 
@@ -186,3 +188,21 @@ Allowed (other l) a = a ≡ Refused R.PoolLength
 unfoldable pub AllAllowed : List Event → Type 0
 AllAllowed [] = Unit
 AllAllowed (e ∷ h) = Allowed (lentBy (e .call)) (e .answer) × AllAllowed h
+
+-- every call is refused with 3
+unfoldable pub AllUnsound : List Event → Type 0
+AllUnsound [] = Unit
+AllUnsound (e ∷ h) = (e .answer ≡ Refused R.Unsound) × AllUnsound h
+
+-- what a session is, by its setup's answer: the machine is sound, and no call was refused but as allowed; or, where the setup was refused, all is as
+-- it left it, and every call is refused with 3. A setup has no other answer
+abbrev pub Reached : Answer → List ℕ → Session → Type 0
+Reached Working cells s = ⊥
+Reached Done cells s = (soundB (s .machine) ≡ true) × AllAllowed (s .history)
+Reached (Job v) cells s = ⊥
+Reached Nothing cells s = ⊥
+Reached (Stolen a) cells s = ⊥
+Reached Moved cells s = ⊥
+Reached (Length d n) cells s = ⊥
+Reached (GaveUp a) cells s = ⊥
+Reached (Refused r) cells s = (s .machine ≡ zeroMachine) × (s .cells ≡ cells) × AllUnsound (s .history)
