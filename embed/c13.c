@@ -1,5 +1,5 @@
-/* 01's game C13 from C: prints the lines that ./play prints for sessions/c13-thief-between.session. Then words that are no machine's are lent, and
-   must be refused with nothing changed. No system header is needed. */
+/* 01's game C13 from C: prints the lines that ./play prints for sessions/c13-thief-between.session. Then rings are looked for where they lie, and words
+   that are no machine's are lent, and must be refused with nothing changed. No system header is needed. */
 #include "hub_queues.h"
 
 int printf(const char *format, ...);
@@ -11,6 +11,7 @@ int printf(const char *format, ...);
 static uint64_t machine[HUB_QUEUES_MACHINE_WORDS];
 static uint64_t pool[CELLS];
 static uint64_t answer[HUB_QUEUES_ANSWER_WORDS];
+static uint64_t part[HUB_QUEUES_PART_WORDS];
 
 /* ---- a call and its line */
 
@@ -138,6 +139,15 @@ static void expect_unchanged(size_t words, uint64_t kind, uint64_t answer_kind, 
     expect(is_answer(answer_kind, number) && is_as_it_was(), what);
 }
 
+/* The queue's ring lies in so many cells, from this one on; the machine is as it was. */
+static void expect_shown(size_t pool_cells, size_t queue, uint64_t start, uint64_t count, const char *what)
+{
+    remember();
+    part[0] = part[1] = 99;
+    hub_queues_shown(machine, HUB_QUEUES_MACHINE_WORDS, pool_cells, queue, part);
+    expect(part[0] == start && part[1] == count && is_as_it_was(), what);
+}
+
 /* Words that are a machine's but for this one: every kind of call refuses them, and no ring is shown. */
 static void expect_no_machine(size_t word, uint64_t value, const char *what)
 {
@@ -147,8 +157,25 @@ static void expect_no_machine(size_t word, uint64_t value, const char *what)
     for (kind = HUB_QUEUES_STEP; kind <= HUB_QUEUES_BATCH_AND_POP; kind++) {
         expect_unchanged(HUB_QUEUES_MACHINE_WORDS, kind, HUB_QUEUES_REFUSED, 3, what);
     }
-    expect(hub_queues_shown(machine, HUB_QUEUES_MACHINE_WORDS, pool, CELLS, 0) == 0, what);
+    expect_shown(CELLS, 0, 0, 0, what);
     machine[word] = own;
+}
+
+/* One queue in the same pool: the 65th job makes its ring grow, from place 0 into place 1. */
+static void expect_growth(void)
+{
+    uint64_t i;
+    hub_queues_setup(machine, HUB_QUEUES_MACHINE_WORDS, pool, CELLS, 1, 0, PLACES, answer);
+    for (i = 0; i < 65; i++) {
+        hub_queues_call(machine, HUB_QUEUES_MACHINE_WORDS, pool, CELLS, 0, HUB_QUEUES_PUSH, 0, 100 + i, answer);
+        while (answer[0] == HUB_QUEUES_WORKING) {
+            hub_queues_call(machine, HUB_QUEUES_MACHINE_WORDS, pool, CELLS, 0, HUB_QUEUES_STEP, 0, 0, answer);
+        }
+    }
+    expect_shown(CELLS, 0, 256, 128, "the ring that has grown has the first 128 cells of place 1");
+    for (i = 0; i < 65; i++) {
+        expect(pool[part[0] + i] == 100 + i, "the jobs stand in the ring that is shown");
+    }
 }
 
 int main(void)
@@ -167,9 +194,11 @@ int main(void)
     steps(1, 2); /* difference -1, length 0 */
     steps(0, 1); /* front 1 again, and nothing */
 
-    expect(hub_queues_shown(machine, HUB_QUEUES_MACHINE_WORDS, pool, CELLS, 0) == 64, "queue 0 shows 64 cells");
-    expect(pool[HUB_QUEUES_RING(machine, 0)] == 7, "the first of them still has job 7");
-    expect(hub_queues_shown(machine, HUB_QUEUES_MACHINE_WORDS, pool, CELLS, QUEUES) == 0, "a queue that is not there shows nothing");
+    expect_shown(CELLS, 0, 0, 64, "queue 0 shows the first 64 cells of place 0");
+    expect(pool[part[0]] == 7, "the first of them still has job 7");
+    expect_shown(CELLS, 1, 256, 64, "queue 1 shows the first 64 cells of place 1");
+    expect_shown(CELLS, QUEUES, 0, 0, "a queue that is not there shows nothing");
+    expect_shown(CELLS - 1, 1, 0, 0, "a pool of another length shows nothing");
 
     expect_no_machine(3, 2, "a flavour of 2 is no machine's");
     expect_no_machine(27, 8, "an operation of 8 is no machine's");
@@ -179,5 +208,7 @@ int main(void)
     remember();
     hub_queues_setup(machine, HUB_QUEUES_MACHINE_WORDS - 1, pool, CELLS, QUEUES, 0, PLACES, answer);
     expect(is_answer(HUB_QUEUES_REFUSED, 3) && is_as_it_was(), "setup refuses 90 words");
+
+    expect_growth();
     return failures != 0;
 }

@@ -1,7 +1,7 @@
 /* The hub's work-stealing queues for firmware: link with target/staticlib/libhub_queues.a. docs/EMBEDDING.md says how to use them.
 
-   The caller lends three stretches of memory, each during a call alone: the machine's words, the pool's cells, the four words of the answer. They
-   must be aligned for uint64_t, must not be null and must not overlap, and nobody else may touch them during the call. One call at a time. */
+   The caller lends stretches of memory, each during a call alone: the machine's words, the pool's cells, the words of the answer. They must be
+   aligned for uint64_t, must not be null and must not overlap, and nobody else may touch them during the call. One call at a time. */
 #ifndef HUB_QUEUES_H
 #define HUB_QUEUES_H
 
@@ -27,9 +27,8 @@ typedef __SIZE_TYPE__ size_t;
 
 #define HUB_QUEUES_ANSWER_WORDS 4
 
-/* The cell of the pool that the ring of queue q begins at. The machine's words are opaque but for this one, the place of queue q's ring; it says
-   something where hub_queues_shown is not 0. */
-#define HUB_QUEUES_RING(machine, q) (HUB_QUEUES_PLACE_CELLS * (machine)[3 + 6 * (q) + 4])
+/* A part of the pool: its first cell, and how many cells it has. */
+#define HUB_QUEUES_PART_WORDS 2
 
 /* The kinds of calls. Thread t owns queue t: it pushes to it and pops from it. */
 enum hub_queues_kind {
@@ -79,11 +78,12 @@ void hub_queues_call(
     size_t thread, uint64_t kind, size_t source, uint64_t operand,
     uint64_t answer[HUB_QUEUES_ANSWER_WORDS]);
 
-/* How many cells the queue's ring has, from HUB_QUEUES_RING on. 0: there is no such queue, the machine is not sound, or this is not its pool. */
-size_t hub_queues_shown(
+/* Where the queue's ring lies in a pool of so many cells: cells part[0] to part[0] + part[1] - 1, the caller's own. 0 and 0: there is no such queue, the
+   machine is not sound, or its pool has another length. The pool is not lent, and nothing but part is written. */
+void hub_queues_shown(
     const uint64_t *machine, size_t machine_words,
-    const uint64_t *pool, size_t pool_cells,
-    size_t queue);
+    size_t pool_cells, size_t queue,
+    uint64_t part[HUB_QUEUES_PART_WORDS]);
 
 #ifdef __cplusplus
 }

@@ -6,8 +6,8 @@ use mathlib.Core.Logic.{_≢_}
 use Prim.Native.Nat.{ℕ, zero, _+_, _-_, _*_, _/_, _≤_, _<_}
 use native.Mathlib.Omega.{arith}
 use lib.Dec.{ltb}
-use lib.ListN.{length, getD, set, take, drop, length-set, length-drop}
-use lib.Seq.{length-take-le, getD-take, getD-drop, getD-set-same, getD-set-other}
+use lib.ListN.{length, getD, set, drop, length-set}
+use lib.Seq.{getD-take, getD-drop, getD-set-same, getD-set-other}
 use borrow.Author.Tests.{ltb-true, lt-ltb, not-true, not-false}
 use borrow.Rule.Slice.PartMut.{putMid, midOf, set-mid-at, mid-len}
 use Rattle.base.specs.Tests.{pick, by-test, both}
@@ -17,7 +17,7 @@ use Rattle.index.proofs.Laws.{cell-below}
 use Rattle.ring.specs.declared.Ring.{Ring}
 use Rattle.ring.specs.Capacity.{allowedB}
 use Rattle.ring.proofs.CapacityLaws.{Allowed, allowed-is, is-allowed}
-use Rattle.cells.specs.Cells.{placeCells, standsB, spot, readOf, writtenOf, stretchOf}
+use Rattle.cells.specs.Cells.{placeCells, standsB, spot, readOf, writtenOf}
 
 -- ---- when a ring stands
 
@@ -166,13 +166,6 @@ start r = r .place .0 * placeCells
 abbrev pub size : Ring → ℕ
 size r = start r + r .capacity - start r
 
-pub stretch-is : (cells : List ℕ) (r : Ring) → standsB cells r ≡ true
-    → take (size r) (drop (start r) cells) ≡ stretchOf cells r
-unfolding stretchOf
-stretch-is cells r s =
-    let e : size r ≡ r .capacity = omega arith in
-    rw (s, e)
-
 -- an index's cell is one of it
 pub at-below : (cells : List ℕ) (r : Ring) (i : Index) (at : ℕ) → standsB cells r ≡ true → at ≡ cellOf i (r .capacity)
     → at < length (midOf (start r) (size r) cells)
@@ -199,20 +192,3 @@ pub put-back : (cells last : List ℕ) (r : Ring) (i : Index) (at job : ℕ) →
 unfolding writtenOf spot
 put-back cells last r i at job s e l =
     rw (l, s, set-mid-at (start r) (size r) at cells job (at-below cells r i at s e), e)
-
--- the stretch of a ring that stands has its capacity in cells
-pub stretch-length : (cells : List ℕ) (r : Ring) → standsB cells r ≡ true → length (stretchOf cells r) ≡ r .capacity
-unfolding stretchOf
-stretch-length cells r s =
-    let t = standing cells r s in
-    let m = t .room in
-    let u = t .allowed .high in
-    let h : r .capacity ≤ length (drop (start r) cells) = rw (length-drop (start r) cells) (omega arith) in
-    rw s (length-take-le (r .capacity) (drop (start r) cells) h)
-
--- in which the cell of index i holds what is read
-pub stretch-at : (cells : List ℕ) (r : Ring) (i : Index) → standsB cells r ≡ true → getD (stretchOf cells r) (cellOf i (r .capacity)) 0 ≡ readOf cells r i
-unfolding stretchOf readOf spot
-stretch-at cells r i s =
-    let b = cell-inside cells r i (standing cells r s) in
-    rw (s, getD-take (r .capacity) (drop (start r) cells) (cellOf i (r .capacity)) 0 b, getD-drop)

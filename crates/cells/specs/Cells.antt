@@ -1,9 +1,9 @@
 -- The cells of a ring in the pool, which is one list.
 use mathlib.Core.Bool.{Bool, _&&_}
-use mathlib.Core.List.{List, []}
+use mathlib.Core.List.{List}
 use Prim.Native.Nat.{ℕ, _+_, _*_, _/_}
 use lib.Dec.{ltb}
-use lib.ListN.{length, getD, set, take, drop}
+use lib.ListN.{length, getD, set}
 use Rattle.base.specs.Tests.{pick}
 use Rattle.index.specs.declared.Index.{Index}
 use Rattle.index.specs.Index.{cellOf}
@@ -33,7 +33,3 @@ writtenOf cells r i job = pick (standsB cells r) (set cells (spot r i) job) cell
 -- the cell of index i copied from one ring to another
 abbrev pub copiedOf : List ℕ → Ring → Ring → Index → List ℕ
 copiedOf cells from to i = writtenOf cells to i (readOf cells from i)
-
--- a ring's stretch of the pool; empty where the ring does not lie in it
-unfoldable pub stretchOf : List ℕ → Ring → List ℕ
-stretchOf cells r = pick (standsB cells r) (take (r .capacity) (drop (r .place .0 * placeCells) cells)) []

@@ -2,7 +2,7 @@
 ghost use mathlib.Core.Path.{_≡_};
 ghost use Prim.Native.Nat.{_<_};
 ghost use lib.ListN.{length, getD, set};
-ghost use Rattle.cells.specs.Cells.{standsB, readOf, writtenOf, copiedOf, stretchOf};
+ghost use Rattle.cells.specs.Cells.{standsB, readOf, writtenOf, copiedOf};
 use index::Index;
 use ring::Ring;
 
@@ -31,18 +31,6 @@ fn put(stretch: &mut [u64], at: usize, job: u64)
     ensures { λ _. ⌜ now (stretch .exit) ≡ set (now (stretch .entry)) at job ⌝ }
 {
     stretch[at] = job;
-}
-
-// A ring's stretch of the pool, as the caller's own cells.
-pub fn stretch(pool: &[u64], ring: Ring) -> &[u64]
-    ensures { λ r. ⌜ now r ≡ stretchOf (now (pool .entry)) ring ⌝ }
-{
-    if !stands(pool, ring) {
-        return &pool[0..0];
-    }
-    let start = ring.place.0 * PLACE_CELLS;
-    let end = start + ring.capacity;
-    &pool[start..end]
 }
 
 // The job in the cell of index i.

@@ -1,4 +1,4 @@
--- What the exported functions leave: the machine's words, the pool's cells, the answer's four words.
+-- What the exported functions leave: the machine's words, the pool's cells, the answer's four words, a part's two.
 use Prim.Native.Nat.{ℕ}
 use mathlib.Core.Bool.{true}
 use mathlib.Core.List.{List, [], _∷_}
@@ -13,7 +13,8 @@ use Rattle.machine.specs.declared.state.Called.{Called}
 use Rattle.machine.specs.State.{After}
 use Rattle.machine.specs.Setup.{setupOf}
 use Rattle.machine.specs.Call.{callOf}
-use Rattle.machine.specs.Shown.{shownOf}
+use Rattle.machine.specs.declared.shown.Part.{Part}
+use Rattle.machine.specs.Shown.{part, shownPart}
 use Rattle.kinds.specs.declared.KindRead.{KindRead}
 use Rattle.kinds.specs.declared.KindRead.the-variants.{Kind, Wrong}
 use Rattle.kinds.specs.Kinds.{requestOf}
@@ -60,5 +61,10 @@ abbrev pub CallTold : List ℕ → List ℕ → ℕ → KindRead → ℕ → ℕ
 CallTold w cells t (Kind k) src n after = AskedTold w cells t (requestOf t k src n) after
 CallTold w cells t Wrong src n after = Unit
 
-unfoldable pub shownWords : List ℕ → List ℕ → ℕ → ℕ
-shownWords w cells q = pick (machineB w) (length (shownOf (machineIn w) cells q)) 0
+-- a part of the pool: its first cell, and how many cells it has
+abbrev pub partWords : Part → List ℕ
+partWords p = p .start ∷ p .count ∷ []
+
+-- len is the pool's length
+unfoldable pub shownWords : List ℕ → ℕ → ℕ → List ℕ
+shownWords w len q = partWords (pick (machineB w) (shownPart (machineIn w) len q) (part 0 0))

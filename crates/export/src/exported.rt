@@ -1,4 +1,5 @@
-// What firmware calls, through `hub_queues`. The machine is lent as 91 words, the pool as its cells; the answer is put into four words.
+// What firmware calls, through `hub_queues`. The machine is lent as 91 words, the pool as its cells; the answer is put into four words, and where a
+// ring lies into two.
 ghost use mathlib.Core.Path.{_≡_};
 ghost use lib.ListN.{length};
 ghost use Rattle.kinds.specs.Kinds.{kindOf};
@@ -100,12 +101,14 @@ pub fn call(
     }
 }
 
-// How many cells the queue's ring has, from the first cell of its place on.
-pub fn shown(machine: &[u64], pool: &[u64], queue: usize) -> usize
-    ensures { λ r. ⌜ r ≡ shownWords (now (machine .entry)) (now (pool .entry)) queue ⌝ }
+// Where the queue's ring starts in a pool of so many cells, and how many cells it has. The cells themselves are not looked at.
+pub fn shown(machine: &[u64], cells: usize, queue: usize, part: &mut [u64; 2])
+    ensures { λ _. ⌜ now (part .exit) ≡ shownWords (now (machine .entry)) cells queue ⌝ }
 {
     if !is_machine(machine) {
-        return 0;
+        *part = [0, 0];
+        return;
     }
-    machine_in(machine).shown(pool, queue).len()
+    let shown = machine_in(machine).shown_part(cells, queue);
+    *part = [shown.start as u64, shown.count as u64];
 }

@@ -11,7 +11,7 @@ use core::answer::Refusal;
 use sound::counts_in_range;
 
 // So many places have so many cells.
-fn is_pool(places: usize, length: usize) -> bool
+pub fn is_pool(places: usize, length: usize) -> bool
     ensures { λ r. ⌜ r ≡ eqb length (places * placeCells) ⌝ }
 {
     if length % PLACE_CELLS != 0 {

@@ -38,8 +38,8 @@ pub extern "C" fn hub_queues_call(
 }
 
 #[no_mangle]
-pub extern "C" fn hub_queues_shown(machine: &[u64], pool: &[u64], queue: usize) -> usize
-    ensures { λ r. ⌜ r ≡ shownWords (now (machine .entry)) (now (pool .entry)) queue ⌝ }
+pub extern "C" fn hub_queues_shown(machine: &[u64], cells: usize, queue: usize, part: &mut [u64; 2])
+    ensures { λ _. ⌜ now (part .exit) ≡ shownWords (now (machine .entry)) cells queue ⌝ }
 {
-    shown(machine, pool, queue)
+    shown(machine, cells, queue, part);
 }

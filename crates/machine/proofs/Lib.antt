@@ -1,3 +1,4 @@
 pub mod StateLaws
 pub mod KeptLaws
 pub mod SetupLaws
+pub mod ShownLaws
