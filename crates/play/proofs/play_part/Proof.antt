@@ -12,7 +12,7 @@ use Rattle.play.proofs.play_part.Statement.{statement}
 use Rattle.play.proofs.play_part.Tie as tie
 
 abbrev Inv-loop : tie.InvT-loop
-Inv-loop stand₀ part pool₀ page₀ from₀ stand pool page from = 
+Inv-loop stand₀ part pool₀ page₀ from₀ stand pool page from =
     (from ≤ length part) × (length pool ≡ length pool₀) × (length page ≡ length page₀) × Room page (stand .at)
 
 abbrev μ-loop : tie.MeasureT-loop
