@@ -43,6 +43,7 @@ fn turn_page(page: &[u8], at: usize) -> usize
     0
 }
 
+// With room for a line, what is printed is put on the page whole; and so at the text's end.
 fn act_whole(stand: Stand, turn: Turn, pool: &mut [u64], page: &mut [u8]) -> Stand
     requires { ⌜ Room (now page) (stand .at) ⌝ }
     ensures { λ r. ⌜ pageOf (now (page .exit)) (r .at) ≡ whole (now (page .entry)) (stand .at) (actText stand turn (now (pool .entry))) ⌝ }

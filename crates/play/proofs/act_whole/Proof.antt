@@ -1,8 +1,5 @@
 -- There is room for the line, so all of it is put on the page.
-use mathlib.Core.Path.{ap, _∙_}
 use borrow.Author.Needs.{needs}
-use Rattle.writing.specs.Writing.{page}
-use Rattle.stand.specs.Stand.{Scene}
 use Rattle.stand.proofs.ActLaws.{act-whole}
 use Rattle.play.proofs.act_whole.Statement.{statement}
 use Rattle.play.proofs.act_whole.Tie as tie
@@ -19,8 +16,7 @@ same-length-2 c = search needs
 returns : tie.Need-returns
 returns c =
     let s = c .before .before .before .before .before .before .before .before .before in
-    ap (λ (w : Scene). page (w .bytes) (w .stand .at)) (c .before .before .before .before .act .ensures) ∙
-    act-whole (s .args .stand) (s .args .turn) (s .args .pool .now) (s .args .page .now) (s .pre)
+    act-whole (s .args .stand) (s .args .turn) (s .args .pool .now) (s .args .page .now) _ _ _ (c .before .before .before .before .act .ensures) (s .pre)
 
 pub act-whole-spec : {M : Type 1} → statement M
 act-whole-spec = tie.close (tie.spec act-requires same-length same-length-2 returns)
