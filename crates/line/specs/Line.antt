@@ -1,7 +1,8 @@
 -- The lines that a session prints: a call's answer and, after a tab for each queue, front, back, ring, place and capacity.
-use Prim.Native.Nat.{ℕ}
+use Prim.Native.Nat.{ℕ, _+_, _≤_}
 use mathlib.Core.List.{List, [], _++_}
 use lib.Dec.{ltb}
+use lib.ListN.{length}
 use Rattle.base.specs.Tests.{pick}
 use Rattle.writing.specs.Writing.{ascii, decimal, signed}
 use Rattle.steal.specs.declared.Steal.{Steal}
@@ -53,3 +54,11 @@ setupText a = ascii "setup " ++ (answerText a ++ ascii "\n")
 
 abbrev pub badText : ℕ → List ℕ
 badText n = (ascii "bad input at byte " ++ decimal n) ++ ascii "\n"
+
+-- no line is longer (`call-short`, `setup-short`, `bad-short` in LineLaws): 49 bytes of an answer, 107 for each of four queues, and the line feed
+abbrev pub longestLine : ℕ
+longestLine = 478
+
+-- from this place on a page has room for a line
+abbrev pub Room : List ℕ → ℕ → Type 0
+Room p at = at + longestLine ≤ length p

@@ -14,6 +14,9 @@ use writing::put_number;
 use writing::put_signed;
 use writing::put_text;
 
+// No line is longer.
+pub const LONGEST_LINE: usize = 478;
+
 fn put_told(page: &mut [u8], at: usize, text: &[u8], n: u64) -> usize
     ensures { λ r. ⌜ pageOf (now (page .exit)) r ≡ put (now (page .entry)) at (now (text .entry) ++ decimal n) ⌝ }
 {

@@ -1,14 +1,14 @@
 -- A session heard from its text: what the next number says, and what is printed then.
 use Prim.Native.Nat.{ℕ, _*_}
 use mathlib.Core.Bool.{Bool, true, false, not}
-use mathlib.Core.List.{List}
+use mathlib.Core.List.{List, []}
 use lib.Dec.{leb}
 use Rattle.base.specs.Tests.{pick}
 use Rattle.reading.specs.declared.Reader.{Reader}
 use Rattle.reading.specs.declared.Word.{Word}
 use Rattle.reading.specs.declared.Word.the-variants as W
 use Rattle.reading.specs.Reading.{newReader, readOf, endOf}
-use Rattle.writing.specs.Writing.{Page, page, put}
+use Rattle.writing.specs.Writing.{Page, put}
 use Rattle.core.specs.declared.queue.Queue.{Queue}
 use Rattle.core.specs.declared.answer.Answer.{Answer}
 use Rattle.core.specs.declared.answer.Answer.the-variants.{Working, Done, Job, Nothing, Stolen, Moved, Length, GaveUp, Refused}
@@ -57,14 +57,17 @@ doneB (GaveUp s) = false
 doneB (Refused r) = false
 
 -- what is printed at what was said: a line for each call, for a setup that is not done, and for what is no session
-abbrev pub shownOf : Said → ℕ → Answer → ℕ → List Queue → List ℕ → ℕ → Page
-shownOf S.Nothing start a n queues bytes at = page bytes at
-shownOf (S.Setup k) start a n queues bytes at = pick (doneB a) (page bytes at) (put bytes at (setupText a))
-shownOf (S.Call t r) start a n queues bytes at = put bytes at (callText n queues a)
-shownOf S.Wrong start a n queues bytes at = put bytes at (badText start)
+abbrev pub saidText : Said → ℕ → Answer → ℕ → List Queue → List ℕ
+saidText S.Nothing start a n queues = []
+saidText (S.Setup k) start a n queues = pick (doneB a) [] (setupText a)
+saidText (S.Call t r) start a n queues = callText n queues a
+saidText S.Wrong start a n queues = badText start
+
+abbrev pub turnText : Turn → Answer → ℕ → List Queue → List ℕ
+turnText t a n queues = saidText (t .said) (t .player .reader .start) a n queues
 
 abbrev pub showOf : Turn → Answer → ℕ → List Queue → List ℕ → ℕ → Page
-showOf t a n queues bytes at = shownOf (t .said) (t .player .reader .start) a n queues bytes at
+showOf t a n queues bytes at = put bytes at (turnText t a n queues)
 
 -- the program ends at a setup that is not done, and at what is no session
 abbrev pub endsB : Said → Answer → Bool
@@ -74,5 +77,8 @@ endsB (S.Call t r) a = false
 endsB S.Wrong a = true
 
 -- at the text's end a session that is cut off is none
+abbrev pub endText : Player → List ℕ
+endText p = pick (wholeB (p .session .awaiting)) [] (badText (p .reader .place))
+
 abbrev pub closeOf : Player → List ℕ → ℕ → Page
-closeOf p bytes at = pick (wholeB (p .session .awaiting)) (page bytes at) (put bytes at (badText (p .reader .place)))
+closeOf p bytes at = put bytes at (endText p)

@@ -16,7 +16,7 @@ use Rattle.session.specs.declared.grammar.Said.the-variants.{Nothing, Setup, Ca
 use Rattle.session.specs.Grammar.{flavorsOf}
 use Rattle.player.specs.declared.Player.{Player}
 use Rattle.player.specs.declared.Turn.{Turn}
-use Rattle.player.specs.Player.{newPlayer, cellsOf, showOf, endsB}
+use Rattle.player.specs.Player.{newPlayer, cellsOf, turnText, showOf, endsB}
 use Rattle.stand.specs.declared.Stand.{Stand}
 
 abbrev pub stood : Player → Machine → ℕ → Bool → Stand
@@ -53,6 +53,10 @@ askOf m t cells = askedOf m (t .said) (t .player) cells
 abbrev pub askIn : ℕ → Machine → Turn → List ℕ → After
 askIn n m t cells = leaves (askOf m t (take n cells) .called) (askOf m t (take n cells) .cells ++ drop n cells)
 
+-- what the machine does at what was said, in the part of the pool that it is lent
+abbrev pub askedIn : Stand → Turn → List ℕ → After
+askedIn s t cells = askIn (lentOf (t .player) cells) (s .machine) t cells
+
 -- then a line is printed, and the program ends or goes on
 abbrev pub shownAt : Turn → After → Page → Scene
 shownAt t a p = scene (stood (t .player) (a .called .machine) (p .at) (endsB (t .said) (a .called .answer))) (a .cells) (p .bytes)
@@ -61,4 +65,11 @@ abbrev pub shown : Turn → After → List ℕ → ℕ → Scene
 shown t a bytes at = shownAt t a (showOf t (a .called .answer) (a .called .machine .«queue_count») (a .called .machine .queues) bytes at)
 
 abbrev pub actOf : Stand → Turn → List ℕ → List ℕ → Scene
-actOf s t cells bytes = shown t (askIn (lentOf (t .player) cells) (s .machine) t cells) bytes (s .at)
+actOf s t cells bytes = shown t (askedIn s t cells) bytes (s .at)
+
+-- that line
+abbrev pub afterText : Turn → After → List ℕ
+afterText t a = turnText t (a .called .answer) (a .called .machine .«queue_count») (a .called .machine .queues)
+
+unfoldable pub actText : Stand → Turn → List ℕ → List ℕ
+actText s t cells = afterText t (askedIn s t cells)

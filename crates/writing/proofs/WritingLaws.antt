@@ -9,10 +9,11 @@ use mathlib.Core.Logic.{⊎-elim}
 use Rattle.base.specs.Tests.{pick, le-or-lt, by-test, tests}
 use lib.Dec.{ltb}
 use Rattle.io.specs.Digits.{digits, Fewest}
-use lib.ListN.{length, length-set, drop, getD, set, drop-of-length-le}
-use lib.Seq.{drop-cons, set-out}
+use lib.IntN.{ℤ, pos, negsuc}
+use lib.ListN.{length, length-append, length-set, drop, getD, set, drop-of-length-le}
+use lib.Seq.{drop-cons, set-out, sets, sets-eq}
 use borrow.Author.Tests.{lt-ltb, le-ltb}
-use Rattle.writing.specs.Writing.{Page, page, put, widthFrom, decimal}
+use Rattle.writing.specs.Writing.{Page, page, put, whole, widthFrom, decimal, signed}
 
 pub put-none : (p : List ℕ) (at : ℕ) → put p at [] ≡ page p at
 unfolding put
@@ -59,6 +60,18 @@ put-within p at (b ∷ bs) h =
     let w : n ≤ length (set p at b) = omega arith in
     let r : put (set p at b) n bs .at ≤ length (set p at b) = put-within (set p at b) n bs w in omega arith
 
+-- a text that fits on a page is all put there, and the bytes around it stay
+put-sets : (p : List ℕ) (at : ℕ) (text : List ℕ) → at + length text ≤ length p → put p at text ≡ page (sets p at text) (at + length text)
+unfolding put
+put-sets p at [] h = ap (page p) (omega arith)
+put-sets p at (b ∷ bs) h =
+    let s : at + 1 ≡ suc at = add-one at in
+    let e : length (set p at b) ≡ length p = length-set p at b in
+    rw (lt-ltb at (length p) (omega arith), s) (put-sets (set p at b) (suc at) bs (omega arith) ∙ ap (page _) (omega arith))
+
+pub put-whole : (p : List ℕ) (at : ℕ) (text : List ℕ) → at + length text ≤ length p → put p at text ≡ whole p at text
+put-whole p at text h = put-sets p at text h ∙ ap (λ (l : List ℕ). page l (at + length text)) (sets-eq text p at h)
+
 -- ---- numbers
 
 ten-to : {i j : ℕ} → i ≤ j → 10 ^ i ≤ 10 ^ j
@@ -95,3 +108,23 @@ at-most-20 n k w h = ⊎-elim (λ (l : k ≤ 20). l) (λ (l : 20 < k). absurd (c
 pub decimal-is : (n k : ℕ) → Fewest 10 1 n k → n < 2 ^ 64 → digits 10 k n ≡ decimal n
 unfolding decimal
 decimal-is n k w h = let l : k ≤ 20 = at-most-20 n k w h in rw (width-is 19 1 n k w (omega arith) (w .0) (omega arith))
+
+-- ---- lengths: a number has at most 20 digits, and a sign before them
+
+digits-length : (b k n : ℕ) → length (digits b k n) ≡ k
+digits-length b zero n = refl
+digits-length b (suc k) n = rw (length-append, digits-length b k) (omega arith)
+
+width-at-most : (f k n : ℕ) → widthFrom f k n ≤ k + f
+unfolding widthFrom
+width-at-most zero k n = omega arith
+width-at-most (suc f) k n =
+    by-test (λ x. x ≤ k + suc f) (ltb n (10 ^ k)) k (widthFrom f (k + 1) n) (λ t. omega arith) (λ t. omega (arith, width-at-most f (k + 1) n))
+
+pub decimal-short : (n : ℕ) → length (decimal n) ≤ 20
+unfolding decimal
+decimal-short n = rw (digits-length 10) (width-at-most 19 1 n)
+
+pub signed-short : (z : ℤ) → length (signed z) ≤ 21
+signed-short (pos n) = omega (arith, decimal-short n)
+signed-short (negsuc n) = omega (arith, decimal-short (n + 1))

@@ -2,10 +2,10 @@
 use Prim.Native.Nat.{ℕ, zero, suc, _+_, _^_}
 use Prim.Native.Char.{code}
 use Prim.Native.String.{String, [] as end, _∷_ as _then_}
-use mathlib.Core.List.{List, [], _∷_}
+use mathlib.Core.List.{List, [], _∷_, _++_}
 use lib.Dec.{ltb}
 use lib.IntN.{ℤ, pos, negsuc}
-use lib.ListN.{length, set}
+use lib.ListN.{length, take, drop, set}
 use Rattle.io.specs.Digits.{digits}
 use Rattle.base.specs.Tests.{pick}
 
@@ -21,6 +21,10 @@ page bytes at = record { bytes = bytes; at = at }
 unfoldable pub put : List ℕ → ℕ → List ℕ → Page
 put p at [] = page p at
 put p at (b ∷ bs) = put (set p at b) (pick (ltb at (length p)) (at + 1) (length p)) bs
+
+-- the page with all of a text on it, from a place on (`put-whole`: so it is where the text fits)
+abbrev pub whole : List ℕ → ℕ → List ℕ → Page
+whole p at text = page (take at p ++ text ++ drop (at + length text) p) (at + length text)
 
 -- the codes of a text's characters
 abbrev pub ascii : String → List ℕ

@@ -1,14 +1,16 @@
--- The loop counts its turns down; the buffers keep their lengths.
+-- The loop counts its turns down; the buffers keep their lengths; and where the next line begins the page has room for it.
 use mathlib.Core.Path.{_≡_, refl, _∙_}
 use native.Mathlib.Omega.{arith}
 use borrow.Author.Needs.{needs}
 use lib.ListN.{length}
+use Rattle.line.specs.Line.{Room}
+use Rattle.play.proofs.CountLaws.{not-over}
 use Rattle.play.proofs.main.Statement.{statement}
 use Rattle.play.proofs.main.Tie as tie
 
 abbrev Inv-loop : tie.InvT-loop
 Inv-loop text₀ page₀ pool₀ stand₀ turns₀ text page pool stand turns =
-    (length text ≡ length text₀) × (length page ≡ length page₀) × (length pool ≡ length pool₀)
+    (length text ≡ length text₀) × (length page ≡ length page₀) × (length pool ≡ length pool₀) × Room page (stand .at)
 
 abbrev μ-loop : tie.MeasureT-loop
 μ-loop text₀ page₀ pool₀ stand₀ turns₀ text page pool stand turns = turns
@@ -23,7 +25,10 @@ new-requires : tie.Need-new-requires Inv-loop μ-loop
 new-requires c κs = search needs
 
 loop-holds : tie.Need-loop-holds Inv-loop μ-loop
-loop-holds c = (refl, refl, refl)
+loop-holds c =
+    let s : c .new .result .at ≡ 0 = rw (c .new .ensures) in
+    let b = c .before .large-buffer2 .ensures in
+    (refl, refl, refl, omega arith)
 
 sub-turns : tie.Need-sub-turns Inv-loop μ-loop
 sub-turns c = omega arith
@@ -47,7 +52,7 @@ slice-aggregate-play-end-2 : tie.Need-slice-aggregate-play-end-2 Inv-loop μ-loo
 slice-aggregate-play-end-2 c = search needs
 
 play-end-requires : tie.Need-play-end-requires Inv-loop μ-loop
-play-end-requires c κs = search needs
+play-end-requires c κs = c .before .before .before .before .before .before .before .before .before .loop .inv .3
 
 returns : tie.Need-returns Inv-loop μ-loop
 returns c = search needs
@@ -65,7 +70,7 @@ slice-aggregate-play-part-3 : tie.Need-slice-aggregate-play-part-3 Inv-loop μ-l
 slice-aggregate-play-part-3 c = search needs
 
 play-part-requires : tie.Need-play-part-requires Inv-loop μ-loop
-play-part-requires c κs = search needs
+play-part-requires c κs = c .before .before .before .before .before .before .before .before .before .before .loop .inv .3
 
 slice-aggregate-write-page : tie.Need-slice-aggregate-write-page Inv-loop μ-loop
 slice-aggregate-write-page c = search needs
@@ -83,7 +88,8 @@ loop-again : tie.Need-loop-again Inv-loop μ-loop
 loop-again c =
     let p = c .before .before .before .play-part in
     let i = c .before .before .before .before .before .before .before .before .before .before .before .before .before .before .loop .inv in
-    (c .before .before .before .before .before .before .before .before .before .before .before .read .kept .1 .0 ∙ i .0, p .kept .1 .1 .1 .0 ∙ i .1, p .kept .1 .1 .0 ∙ i .2)
+    let t = c .before .before .before .before .before .before .before .before .before .before .before .read in
+    (t .kept .1 .0 ∙ i .0, p .kept .1 .1 .1 .0 ∙ i .1, p .kept .1 .1 .0 ∙ i .2, not-over _ (p .ensures) (c .if2 .left))
 
 returns-3 : tie.Need-returns-3 Inv-loop μ-loop
 returns-3 c = search needs

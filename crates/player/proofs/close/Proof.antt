@@ -1,5 +1,6 @@
 -- The test is the definition's own, by what its calls ensure.
 use borrow.Author.Needs.{needs}
+use Rattle.writing.proofs.WritingLaws.{put-none}
 use Rattle.player.proofs.close.Statement.{statement}
 use Rattle.player.proofs.close.Tie as tie
 
@@ -7,7 +8,7 @@ is-whole-requires : tie.Need-is-whole-requires
 is-whole-requires c κs = search needs
 
 returns : tie.Need-returns
-returns c = rw (← c .before .is-whole .ensures, c .if1 .taken)
+returns c = rw (← c .before .is-whole .ensures, c .if1 .taken, put-none)
 
 put-bad-requires : tie.Need-put-bad-requires
 put-bad-requires c κs = search needs

@@ -1,5 +1,6 @@
--- Each arm is its clause of `shownOf`, by what its calls ensure.
+-- Each arm is its clause of `saidText`, by what its calls ensure.
 use borrow.Author.Needs.{needs}
+use Rattle.writing.proofs.WritingLaws.{put-none}
 use Rattle.player.proofs.Turn.show.Statement.{statement}
 use Rattle.player.proofs.Turn.show.Tie as tie
 
@@ -13,7 +14,7 @@ is-done-requires : tie.Need-is-done-requires
 is-done-requires c κs = search needs
 
 returns : tie.Need-returns
-returns c = rw (c .before .before .enum-told2 .given .1, ← c .before .is-done .ensures, c .if1 .taken)
+returns c = rw (c .before .before .enum-told2 .given .1, ← c .before .is-done .ensures, c .if1 .taken, put-none)
 
 put-setup-requires : tie.Need-put-setup-requires
 put-setup-requires c κs = search needs
@@ -31,7 +32,7 @@ put-bad-requires : tie.Need-put-bad-requires
 put-bad-requires c κs = search needs
 
 returns-2 : tie.Need-returns-2
-returns-2 c = rw (c .enum-told .given .1)
+returns-2 c = rw (c .enum-told .given .1, put-none)
 
 same-length : tie.Need-same-length
 same-length c = search needs
