@@ -1,6 +1,6 @@
 -- A row that meets the theorem's premises: 91 words of zeros and one cleared place, a setup of one queue, and thread 0 pushes job 7, in five calls. The
 -- job is accepted once, and stands in the queue.
-use mathlib.Core.Path.{_≡_, refl, subst}
+use mathlib.Core.Path.{_≡_, refl}
 use mathlib.Core.List.{List, [], _∷_}
 use Prim.Native.Nat.{ℕ, _+_, _-_, _≤_}
 use native.Mathlib.Omega.{arith}
@@ -18,7 +18,8 @@ use Rattle.machine.specs.Step.{gateOf, stepOf}
 use Rattle.slots.specs.Slots.{indexWord, indexOf}
 use Rattle.words.specs.Slices.{machineB}
 use Rattle.model.specs.Count.{one, upd}
-use Rattle.theorem.specs.History.{Lent, pool, other, Lends, standing, AtRest}
+use Rattle.theorem.specs.History.{pool, Lends, standing, AtRest}
+use Rattle.theorem.proofs.Runs.{own-pool}
 use Rattle.export.specs.Words.{machineIn, machinePut}
 use Rattle.export.specs.Exported.{setupWords, SetupTold, askedWords}
 use Rattle.firmware.specs.Rows.{Entry, Promised, Row, wordsAt, poolAt, callsIn, acceptedIn, answeredIn}
@@ -97,14 +98,6 @@ stores-back-so = (refl, λ h. (refl, refl))
 pub a-push-is-a-row : Row (words 0 0 0 0) (cells 0) a-push
 unfolding Row
 a-push-is-a-row = (begins-so, (loads-back-so, (loads-front-so, (writes-so, (stores-back-so, tt)))))
-
--- the session's pool is no other list
-own-pool : (l : List ℕ) → pool ≡ other l → ⊥
-own-pool l e = subst (λ (x : Lent). is-pool x) e tt
-  where
-    is-pool : Lent → Type 0
-    is-pool pool = Unit
-    is-pool (other l) = ⊥
 
 lends : Lends 1 (callsIn a-push)
 unfolding Lends callsIn kindOf

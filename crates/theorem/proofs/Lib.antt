@@ -4,3 +4,4 @@ pub mod Refused
 pub mod Theorem
 pub mod Wrong
 pub mod Named
+pub mod GaveUp

@@ -50,18 +50,7 @@ pub data LiveRing (m : Machine) : Ring → Type 0 where
   built : (t : ℕ) (r : Ring) → t < m .«queue_count» → keptOf (stageAt m t) ≡ Q.Built r → LiveRing m r
   held : (t : ℕ) (r : Ring) → t < m .«queue_count» → keptOf (stageAt m t) ≡ Q.Held r → LiveRing m r
 
--- an answer is 8 or 9; a stage is a length's that has loaded the back
-abbrev gaveUpB : CodeAnswer → Bool
-gaveUpB B.Working = false
-gaveUpB B.Done = false
-gaveUpB (B.Job v) = false
-gaveUpB B.Nothing = false
-gaveUpB (B.Stolen a) = false
-gaveUpB B.Moved = false
-gaveUpB (B.Length d l) = false
-gaveUpB (B.GaveUp e) = true
-gaveUpB (B.Refused r) = false
-
+-- a stage is a length's that has loaded the back
 abbrev lengthB : CodeLength → Bool
 lengthB N.LoadBack = false
 lengthB (N.LoadFront b) = true
@@ -159,54 +148,6 @@ module _ (n : ℕ) (fl : ℕ → Flavour) (jobs : ℕ → ℕ) (c : ℕ) (m : Ma
   keeps-one t a r (inl x) (inr y) = absurd (let z : Q.Built a ≡ Q.Held r = sym x ∙ y in let u : _≡_ {A = ℕ} 0 1 = cc in let v : ⊥ = omega arith in v)
   keeps-one t a r (inr x) (inl y) = absurd (let z : Q.Held a ≡ Q.Built r = sym x ∙ y in let u : _≡_ {A = ℕ} 0 1 = cc in let v : ⊥ = omega arith in v)
   keeps-one t a r (inr x) (inr y) = let z : Q.Held a ≡ Q.Held r = sym x ∙ y in cc
-
-  -- ---- after 8 or 9 nothing moved and no cell was written
-
-  -- of the model's answers, 8 and 9 are these two
-  short : (a : Answer) (x : Stage) (e : Shortage) → answerFor a ≡ B.GaveUp e → StillEarly a x
-  short working x e h = absurd (true-false (sym (ap gaveUpB h)))
-  short done x e h = absurd (true-false (sym (ap gaveUpB h)))
-  short (job byPop w) x e h = absurd (true-false (sym (ap gaveUpB h)))
-  short (job byBatch w) x e h = absurd (true-false (sym (ap gaveUpB h)))
-  short (nothing byPop) x e h = absurd (true-false (sym (ap gaveUpB h)))
-  short (nothing byBatch) x e h = absurd (true-false (sym (ap gaveUpB h)))
-  short empty x e h = absurd (true-false (sym (ap gaveUpB h)))
-  short (success w) x e h = absurd (true-false (sym (ap gaveUpB h)))
-  short retry x e h = absurd (true-false (sym (ap gaveUpB h)))
-  short moved x e h = absurd (true-false (sym (ap gaveUpB h)))
-  short (twoNumbers i j) x e h = absurd (true-false (sym (ap gaveUpB h)))
-  short tooLarge x e h = tt
-  short noRing x e h = tt
-
-  not-short : (r : Refusal) (e : Shortage) → B.Refused r ≡ B.GaveUp e → ⊥
-  not-short r e h = true-false (sym (ap gaveUpB h))
-
-  abbrev Leaves : ℕ → After → Type 0
-  Leaves t a = (e : Shortage) → a .called .answer ≡ B.GaveUp e
-      → (a .cells ≡ cells) × ((j : ℕ) → j < n → queueAt (a .called .machine) j ≡ queueAt m j)
-
-  gave-up-in : c < 2 ^ 62 → (t : ℕ) → t < n → (y : Bool) → busy (s .stages t) ≡ y → Leaves t (stepOf m cells t)
-  unfolding stepOf
-  gave-up-in lc t lt false f =
-      rw (
-        gate-in n fl jobs c lc m cells b t lt,
-        b .linked .stages t lt,
-        idle-is (b .names) (b .names t (s .queues t .top)) (s .stages t),
-        f,
-      ) (λ e h. absurd (not-short K.Idle e h))
-  gave-up-in lc t lt true f =
-      let bx : T (busy (s .stages t)) = to-T (busy (s .stages t)) f in
-      let k : Turned n fl s m cells jobs (b .inv) c (b .bounded) lc t lt bx = turn n fl s m cells jobs (b .inv) c (b .bounded) lc t lt bx (b .names) (b .linked) in
-      let q : Queue = s .queues (touched t (s .stages t)) in
-      let g : Offer = offerFor (k .claim) (s .stages t) q in
-      let o : Out = stepAt g fl t (s .stages t) q in
-      subst (Leaves t) (sym (k .step))
-      (λ e h. (let u = gave-up g fl t (s .stages t) q bx (short (o .answer) (o .stage) e h) in k .unchanged (u .1) (u .2)))
-
-  pub gave-up-leaves : c < 2 ^ 62 → (t : ℕ) → Leaves t (stepOf m cells t)
-  unfolding stepOf
-  gave-up-leaves lc t =
-      ⊎-elim (λ h. rw (gate-none n fl jobs c lc m cells b t h) (λ e z. absurd (not-short K.NoSuch e z))) (λ h. gave-up-in lc t h (busy (s .stages t)) refl) (le-or-lt n t)
 
   -- ---- the owner's length of the own queue
 

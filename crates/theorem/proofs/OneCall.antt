@@ -149,7 +149,7 @@ module _ (n : ℕ) (fl : ℕ → Flavour) (mem : ℕ → ℕ) (c : ℕ) (lc : c 
       rw (call-sound, eq-eqb (length cells) (m .«place_count» * placeCells) (w .pool-length), w .count, le-ltb t n h)
 
   -- a pool of another length
-  gate-other : (l : List ℕ) (t : ℕ) → (length l ≡ m .«place_count» * placeCells → ⊥) → gateOf m (length l) t ≡ Shut K.PoolLength
+  pub gate-other : (l : List ℕ) (t : ℕ) → (length l ≡ m .«place_count» * placeCells → ⊥) → gateOf m (length l) t ≡ Shut K.PoolLength
   unfolding gateOf
   gate-other l t h = rw (call-sound, ne-eqb (length l) (m .«place_count» * placeCells) h)
 

@@ -42,9 +42,17 @@ use Rattle.link.specs.Map.{ix}
 use Rattle.link.specs.Linked.{Behind}
 use Rattle.link.proofs.LinkedLaws.{fits}
 use Rattle.link.proofs.TurnLaws.{idle-is}
-use Rattle.theorem.specs.History.{answered, Call, asks, lentBy, lent, poolAfter, calledOf, Lends, runBy, run, jobsAfter, acceptedFrom}
+use Rattle.theorem.specs.History.{pool, answered, other, Lent, Call, asks, lentBy, lent, poolAfter, calledOf, Lends, runBy, run, jobsAfter, acceptedFrom}
 use Rattle.theorem.specs.History.{standsIn, standing, AtRest, AllAllowed}
 use Rattle.theorem.proofs.OneCall.{idle-of, Goes, one-call}
+
+-- the session's pool is no other list
+pub own-pool : (l : List ℕ) → pool ≡ other l → ⊥
+own-pool l e = subst (λ (x : Lent). is-pool x) e tt
+  where
+    is-pool : Lent → Type 0
+    is-pool pool = Unit
+    is-pool (other l) = ⊥
 
 -- ---- the place count stays
 
@@ -68,7 +76,7 @@ begin-places m cells t o = go (thenGate (gateOf m (length cells) t) (beginTests 
     go Open = refl
     go (Shut r) = refl
 
-call-places : (m : Machine) (cells : List ℕ) (c : Call) → calledOf m cells c .called .machine .«place_count» ≡ m .«place_count»
+pub call-places : (m : Machine) (cells : List ℕ) (c : Call) → calledOf m cells c .called .machine .«place_count» ≡ m .«place_count»
 unfolding calledOf
 call-places m cells (asks p t (Begin o)) = begin-places m (lent p cells) t o
 call-places m cells (asks p t Step) = step-places m (lent p cells) t

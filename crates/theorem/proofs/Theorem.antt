@@ -76,7 +76,7 @@ module _ (k : ℕ) (flavors : List Flavor) (n : ℕ) (cells : List ℕ) (calls :
   -- ---- after a setup that was refused
 
   module _ (r : Refusal) (is : setupOf k flavors n cells ≡ refused zeroMachine r cells) where
-    as-it-was : AsItWas cells s
+    pub as-it-was : AsItWas cells s
     as-it-was = subst (λ (a : After). AsItWas cells (run (a .called .machine) (a .cells) calls)) (sym is) (zero-run cells calls)
 
     conserved-not : (j : ℕ) → (answered (s .history) j ≤ accepted (s .history) j)

@@ -7,7 +7,11 @@ use Rattle.core.specs.declared.out.Out.{Out}
 use Rattle.core.specs.Out.{Left, left}
 use Rattle.machine.specs.declared.state.Called.{Called}
 use Rattle.machine.specs.State.{After, leaves}
+use Rattle.core.specs.declared.out.Resized.{Resized}
+use Rattle.op_resize.specs.Resize.{Resizing, resizing}
 use Rattle.writing.specs.Writing.{Page, page}
+use Rattle.stand.specs.declared.Stand.{Stand}
+use Rattle.stand.specs.Stand.{Scene, scene}
 
 pub record Form (A C B : Type 0) : Type 0 where
   pub form : A → C → B
@@ -34,6 +38,23 @@ stepped = record { form = left; result = λ v. v .out; rest = λ v. v .cells; re
 abbrev pub printed : Form ℕ (List ℕ) Page
 printed = record { form = λ r c. page c r; result = λ v. v .at; rest = λ v. v .bytes; result-is = λ r c. refl; rest-is = λ r c. refl }
 
--- the result beside two lists that were lent: an exported call puts them together so
-abbrev pub besideTwo : {A : Type 0} → Form A (List ℕ × List ℕ) (A × List ℕ × List ℕ)
-besideTwo = record { form = λ r c. (r, c .0, c .1); result = λ v. v .0; rest = λ v. (v .1, v .2); result-is = λ r c. refl; rest-is = λ r c. refl }
+-- a step of a resize; what the program has next
+abbrev pub resized : Form Resized (List ℕ) Resizing
+resized = record { form = resizing; result = λ v. v .resized; rest = λ v. v .cells; result-is = λ r c. refl; rest-is = λ r c. refl }
+
+abbrev pub acted : Form Stand (List ℕ × List ℕ) Scene
+acted = record { form = λ r c. scene r (c .0) (c .1); result = λ v. v .stand; rest = λ v. (v .cells, v .bytes); result-is = λ r c. refl; rest-is = λ r c. refl }
+
+-- a part of what was lent, shown: `now r ≡ v`
+abbrev pub shown : Form (List ℕ) Unit (List ℕ)
+shown = plain
+
+-- no result, and one, two or three lists that were lent: `now (x .exit) ≡ v`, `(now (x .exit), now (y .exit)) ≡ v`, ..
+abbrev pub lent : Form Unit (List ℕ) (List ℕ)
+lent = record { form = λ r c. c; result = λ v. tt; rest = λ v. v; result-is = λ r c. refl; rest-is = λ r c. refl }
+
+abbrev pub lentTwo : Form Unit (List ℕ × List ℕ) (List ℕ × List ℕ)
+lentTwo = record { form = λ r c. (c .0, c .1); result = λ v. tt; rest = λ v. v; result-is = λ r c. refl; rest-is = λ r c. refl }
+
+abbrev pub lentThree : Form Unit (List ℕ × List ℕ × List ℕ) (List ℕ × List ℕ × List ℕ)
+lentThree = record { form = λ r c. (c .0, c .1, c .2); result = λ v. tt; rest = λ v. v; result-is = λ r c. refl; rest-is = λ r c. refl }

@@ -1,6 +1,6 @@
 -- No second answer satisfies a promise: two results, with what the calls left of what was lent, that meet the same promise are the same.
 use mathlib.Core.Path.{_≡_, sym, ap, _∙_}
-use Rattle.promise.specs.Promise.{Form}
+use Rattle.pinned.specs.Forms.{Form}
 
 pub pinned : {A C B : Type 0} (f : Form A C B) (v : B) (r s : A) (c d : C) → f .form r c ≡ v → f .form s d ≡ v → (r ≡ s) × (c ≡ d)
 pinned f v r s c d p q =
