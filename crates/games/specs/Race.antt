@@ -26,10 +26,10 @@ pub record Seen : Type 0 where
   pub front : ℤ
   pub back : ℤ
 
-abbrev seen : Answer → ℤ → ℤ → Seen
+abbrev pub seen : Answer → ℤ → ℤ → Seen
 seen a f b = record { answer = a; front = f; back = b }
 
-abbrev look : After → Seen
+abbrev pub look : After → Seen
 look a = seen (answerOf a) (queueAt (a .called .machine) 0 .front .0) (queueAt (a .called .machine) 0 .back .0)
 
 -- the owner's two steps; the thief's steal; the owner's third and fourth step

@@ -89,6 +89,17 @@ module _ (k : ℕ) (flavors : List Flavor) (n : ℕ) (cells : List ℕ) (calls :
         ap (λ (m : Machine). standing m (s .cells) j) (w .machine) ∙ zero-stands (s .cells) j in
         (omega arith, λ h. omega arith)
 
+  -- after a setup that answered Done a state of the model stands behind the machine
+  pub reached-done : setupOf k flavors n cells .called .answer ≡ B.Done → (jobs : ℕ → ℕ) × Behind k fl jobs (length calls) (s .machine) (s .cells)
+  reached-done h = go (setting-up k flavors n cells)
+    where
+      not-done : (r : Refusal) → B.Refused r ≡ B.Done → ⊥
+      not-done r e = let z : _≡_ {A = ℕ} 0 1 = cc in omega arith
+
+      go : SetUp k flavors n cells → (jobs : ℕ → ℕ) × Behind k fl jobs (length calls) (s .machine) (s .cells)
+      go (set-up start) = reached start
+      go (turned-away r is) = absurd (not-done r (sym (ap (λ (a : After). a .called .answer) is) ∙ h))
+
   -- ---- the statements
 
   -- no job lost, none doubled

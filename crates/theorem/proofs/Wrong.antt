@@ -15,13 +15,13 @@ use Rattle.model.specs.Count.{one, upd}
 use Rattle.theorem.specs.History.{pool, accepted, answered, other, Call, asks, lentBy, lent, runBy, acceptedFrom, standing}
 
 -- thread 0 pushes, and every step of another thread answers the same job
-abbrev copies : Machine → List ℕ → Call → After
+abbrev pub copies : Machine → List ℕ → Call → After
 copies m cells (asks p t (Begin o)) = after m B.Working cells
 copies m cells (asks p zero Step) = after m B.Done cells
 copies m cells (asks p (suc t) Step) = after m (B.Job 7) cells
 
 -- one job is accepted, and it is answered twice
-abbrev twice : List Call
+abbrev pub twice : List Call
 twice = asks pool 0 (Begin (O.Push 7)) ∷ asks pool 0 Step ∷ asks pool 1 Step ∷ asks pool 1 Step ∷ []
 
 pub copies-fails : (m : Machine) (cells : List ℕ)
@@ -29,7 +29,7 @@ pub copies-fails : (m : Machine) (cells : List ℕ)
 unfolding runBy acceptedFrom answered upd one
 copies-fails m cells = (refl, refl)
 
-abbrev says-empty : Machine → List ℕ → Call → After
+abbrev pub says-empty : Machine → List ℕ → Call → After
 says-empty m cells c = after m (B.Stolen T.Empty) (lent (lentBy c) cells)
 
 -- nothing is accepted, nothing answered, and what stood in the queues stands there
