@@ -1,0 +1,4 @@
+pub mod Steals
+pub mod Numbers
+pub mod Stages
+pub mod Sound
