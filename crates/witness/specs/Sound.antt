@@ -11,7 +11,6 @@ use Rattle.ring.specs.declared.Ring.{Ring}
 use Rattle.ring.specs.Capacity.{allowedB}
 use Rattle.core.specs.declared.answer.Refusal.{Refusal}
 use Rattle.core.specs.declared.answer.Refusal.the-variants.{PoolLength, Unsound}
-use Rattle.core.specs.declared.queue.Flavor.{Flavor}
 use Rattle.core.specs.declared.queue.Flavor.the-variants.{Fifo, Lifo}
 use Rattle.core.specs.declared.queue.Queue.{Queue}
 use Rattle.core.specs.declared.stage.ResizeStage.the-variants.{Swap}

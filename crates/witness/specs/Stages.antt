@@ -1,8 +1,8 @@
 -- Stages by what they remember, all of each kind: those that hold a ring, build one, resize to a capacity, name a queue, want n jobs, count them.
 -- What is not in question is sound: ring 9 in place 2, queue 0, no jobs counted.
 use mathlib.Core.List.{List, [], _∷_, _++_, map}
-use Prim.Native.Nat.{ℕ, _-_, _^_}
-use lib.IntN.{pos, negsuc}
+use Prim.Native.Nat.{ℕ}
+use lib.IntN.{negsuc}
 use Rattle.index.specs.declared.Index.{Index}
 use Rattle.ring.specs.declared.Ring.{Ring}
 use Rattle.core.specs.declared.stage.ResizeStage.{ResizeStage}
