@@ -53,6 +53,10 @@ stepped r = stepOf (r .machine) oneCell 0
 abbrev asItWas : Row → After
 asItWas r = refused (r .machine) (r .refusal) oneCell
 
+-- a step is refused as the rows say, and leaves all as it was
+abbrev pub Judged : List Row → Type 0
+Judged rows = map stepped rows ≡ map asItWas rows
+
 -- ---- machines with one part changed
 
 -- k queues, n places: ring q in place q, and the other places are free
@@ -90,7 +94,7 @@ differing capacity f b = withQueue (fresh 2 3) 1 (spanning f b (ringAt 1 capacit
 abbrev lying : ℕ → ℕ → Machine
 lying k p = withQueue (fresh 4 6) k (empty (ringAt p 64))
 
--- four queues, six places, and thread s builds a ring in place p
+-- thread s builds a ring in place p
 abbrev builds : ℕ → Machine → ℕ → Machine
 builds s m p = withStage m s (G.Push 7 (Resize zeroIndex (Swap (ringAt p 64))))
 
@@ -100,8 +104,8 @@ holds s m p = withStage m s (G.Steal 0 (Read zeroIndex (ringAt p 64)))
 
 -- ---- counts and queues
 
-abbrev pub machines : List Row
-machines =
+abbrev pub counts : List Row
+counts =
     -- counts in range: queues 1 to 4
     unsound zeroMachine ∷
     unsound (fresh 0 1) ∷
@@ -113,6 +117,10 @@ machines =
     sound (fresh 2 2) ∷
     sound (fresh 2 16) ∷
     unsound (fresh 2 17) ∷
+    []
+
+abbrev pub capacities : List Row
+capacities =
     -- capacities allowed
     sound (last 64) ∷
     sound (last 128) ∷
@@ -128,6 +136,10 @@ machines =
     unsound (last 512) ∷
     sound (first 256) ∷
     unsound (first 96) ∷
+    []
+
+abbrev pub places : List Row
+places =
     -- place numbers below the count
     sound (lying 3 5) ∷
     unsound (lying 3 6) ∷
@@ -142,6 +154,10 @@ machines =
     unsound (lying 1 3) ∷
     unsound (lying 2 3) ∷
     sound (lying 2 4) ∷
+    []
+
+abbrev pub builtRings : List Row
+builtRings =
     -- a built ring, against the own queue's and against another's
     unsound (builds 0 (fresh 4 6) 0) ∷
     unsound (builds 3 (fresh 4 6) 3) ∷
@@ -162,6 +178,10 @@ machines =
     sound (holds 0 (holds 1 (fresh 4 6) 4) 4) ∷
     sound (holds 0 (builds 1 (fresh 4 6) 4) 4) ∷
     unsound (holds 0 (fresh 4 6) 6) ∷
+    []
+
+abbrev pub differences : List Row
+differences =
     -- each difference from -1 to capacity
     unsound (differing 64 (pos 2) (pos 0)) ∷
     sound (differing 64 (pos 2) (pos 1)) ∷
@@ -176,6 +196,10 @@ machines =
     sound (differing 64 (pos (2 ^ 63 - 1)) (negsuc (2 ^ 63 - 1))) ∷
     sound (differing 64 (pos (2 ^ 63 - 1)) (negsuc (2 ^ 63 - 64))) ∷
     unsound (differing 64 (pos (2 ^ 63 - 1)) (negsuc (2 ^ 63 - 65))) ∷
+    []
+
+abbrev pub above : List Row
+above =
     -- queues and threads above the count are not looked at
     sound (withQueue (fresh 2 3) 2 (empty (ringAt 0 65))) ∷
     sound (withQueue (fresh 2 3) 3 (spanning (pos 9) (pos 0) (ringAt 9 0))) ∷
@@ -185,13 +209,34 @@ machines =
     sound (withStage (fresh 2 3) 2 (G.Length 7 LoadBack)) ∷
     []
 
-pub all-machines : map stepped machines ≡ map asItWas machines
+pub counts-judged : Judged counts
 unfolding stepOf gateOf soundB allBelow allowedB ones onesIn spansB differenceOf wrap
-all-machines = refl
+counts-judged = refl
 
-pub all-machines-begun : map begun machines ≡ map asItWas machines
+pub capacities-judged : Judged capacities
+unfolding stepOf gateOf soundB allBelow allowedB ones onesIn spansB differenceOf wrap
+capacities-judged = refl
+
+pub places-judged : Judged places
+unfolding stepOf gateOf soundB allBelow allowedB ones onesIn spansB differenceOf wrap
+places-judged = refl
+
+pub built-judged : Judged builtRings
+unfolding stepOf gateOf soundB allBelow allowedB ones onesIn spansB differenceOf wrap
+built-judged = refl
+
+pub differences-judged : Judged differences
+unfolding stepOf gateOf soundB allBelow allowedB ones onesIn spansB differenceOf wrap
+differences-judged = refl
+
+pub above-judged : Judged above
+unfolding stepOf gateOf soundB allBelow allowedB ones onesIn spansB differenceOf wrap
+above-judged = refl
+
+-- a begin is judged as a step is
+pub begins-judged : map begun (counts ++ (capacities ++ (places ++ (builtRings ++ (differences ++ (above)))))) ≡ map asItWas (counts ++ (capacities ++ (places ++ (builtRings ++ (differences ++ (above))))))
 unfolding beginOf gateOf soundB allBelow allowedB ones onesIn spansB differenceOf wrap
-all-machines-begun = refl
+begins-judged = refl
 
 -- ---- what a thread remembers, in two queues and three places: place 2 is free
 
@@ -199,46 +244,56 @@ all-machines-begun = refl
 abbrev remembered : (Machine → Row) → List Stage → List Row
 remembered row l = map (λ (s : Stage). row (withStage (fresh 2 3) 0 s)) l ++ map (λ (s : Stage). row (withStage (fresh 2 3) 1 s)) l
 
-abbrev pub stages : List Row
-stages =
-    remembered sound plain ++
-    -- a ring that is built: an allowed capacity, a place below the count, and no current ring's
-    (remembered sound (building (ringAt 2 64)) ++
-    (remembered sound (building (ringAt 2 256)) ++
-    (remembered unsound (building (ringAt 2 32)) ++
-    (remembered unsound (building (ringAt 2 96)) ++
-    (remembered unsound (building (ringAt 2 512)) ++
-    (remembered unsound (building (ringAt 3 64)) ++
-    (remembered unsound (building (ringAt 0 64)) ++
-    (remembered unsound (building (ringAt 1 64)) ++
-    -- a ring that is held: the same, but it may be in a current ring's place
-    (remembered sound (holding (ringAt 2 256)) ++
-    (remembered sound (holding (ringAt 0 64)) ++
-    (remembered sound (holding (ringAt 1 64)) ++
-    (remembered unsound (holding (ringAt 2 32)) ++
-    (remembered unsound (holding (ringAt 2 512)) ++
-    (remembered unsound (holding (ringAt 3 64)) ++
-    -- a capacity it resizes to is allowed
-    (remembered sound (resizing 64) ++
-    (remembered sound (resizing 256) ++
-    (remembered unsound (resizing 32) ++
-    (remembered unsound (resizing 96) ++
-    (remembered unsound (resizing 512) ++
-    -- the source queue it remembers exists
-    (remembered sound (naming 1) ++
-    (remembered unsound (naming 2) ++
-    -- once reserve is past, a batch's n is at most the largest capacity
-    (remembered sound (before 257) ++
-    (remembered sound (before (2 ^ 64 - 1)) ++
-    (remembered sound (past 0) ++
-    (remembered sound (past 256) ++
-    (remembered unsound (past 257) ++
-    -- and its counters at most n
-    (remembered sound (counting 3 3) ++
-    (remembered unsound (counting 3 4) ++
-    (remembered sound (counting 256 256) ++
-    (remembered unsound (counting 256 257) ++ (remembered sound (counting 0 0) ++ remembered unsound (counting 0 1))))))))))))))))))))))))))))))))
+abbrev every : (Machine → Row) → List (List Stage) → List Row
+every row [] = []
+every row (l ∷ ls) = remembered row l ++ every row ls
 
-pub all-stages : map stepped stages ≡ map asItWas stages
+-- stages that are sound, and stages that are not
+abbrev memories : List (List Stage) → List (List Stage) → List Row
+memories ls ls' = every sound ls ++ every unsound ls'
+
+-- nothing that soundness asks about
+pub plain-judged : Judged (remembered sound plain)
 unfolding stepOf gateOf soundB allBelow allowedB ones onesIn spansB differenceOf wrap
-all-stages = refl
+plain-judged = refl
+
+-- a ring that is built: an allowed capacity, a place below the count, and no current ring's
+pub building-judged : Judged
+    (memories (building (ringAt 2 64) ∷ building (ringAt 2 256) ∷ [])
+    (building (ringAt 2 32) ∷
+    building (ringAt 2 96) ∷
+    building (ringAt 2 512) ∷
+    building (ringAt 3 64) ∷
+    building (ringAt 0 64) ∷
+    building (ringAt 1 64) ∷
+    []))
+unfolding stepOf gateOf soundB allBelow allowedB ones onesIn spansB differenceOf wrap
+building-judged = refl
+
+-- a ring that is held: the same, but it may be in a current ring's place
+pub holding-judged : Judged
+    (memories (holding (ringAt 2 256) ∷ holding (ringAt 0 64) ∷ holding (ringAt 1 64) ∷ [])
+    (holding (ringAt 2 32) ∷ holding (ringAt 2 96) ∷ holding (ringAt 2 512) ∷ holding (ringAt 3 64) ∷ []))
+unfolding stepOf gateOf soundB allBelow allowedB ones onesIn spansB differenceOf wrap
+holding-judged = refl
+
+-- a capacity it resizes to is allowed
+pub resizing-judged : Judged (memories (resizing 64 ∷ resizing 256 ∷ []) (resizing 0 ∷ resizing 32 ∷ resizing 96 ∷ resizing 512 ∷ []))
+unfolding stepOf gateOf soundB allBelow allowedB ones onesIn spansB differenceOf wrap
+resizing-judged = refl
+
+-- the source queue it remembers exists
+pub naming-judged : Judged (memories (naming 1 ∷ []) (naming 2 ∷ []))
+unfolding stepOf gateOf soundB allBelow allowedB ones onesIn spansB differenceOf wrap
+naming-judged = refl
+
+-- once reserve is past, a batch's n is at most the largest capacity
+pub wanting-judged : Judged (memories (before 257 ∷ before (2 ^ 64 - 1) ∷ past 0 ∷ past 256 ∷ []) (past 257 ∷ []))
+unfolding stepOf gateOf soundB allBelow allowedB ones onesIn spansB differenceOf wrap
+wanting-judged = refl
+
+-- and its counters at most n
+pub counting-judged : Judged
+    (memories (counting 3 3 ∷ counting 256 256 ∷ counting 0 0 ∷ []) (counting 3 4 ∷ counting 256 257 ∷ counting 0 1 ∷ []))
+unfolding stepOf gateOf soundB allBelow allowedB ones onesIn spansB differenceOf wrap
+counting-judged = refl
