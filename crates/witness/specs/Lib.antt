@@ -7,3 +7,4 @@ pub mod Batches
 pub mod Claims
 pub mod Shown
 pub mod Exported
+pub mod Lines
