@@ -3,3 +3,4 @@ pub mod Runs
 pub mod Theorem
 pub mod Wrong
 pub mod Named
+pub mod Played

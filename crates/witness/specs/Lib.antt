@@ -6,5 +6,4 @@ pub mod Refusals
 pub mod Batches
 pub mod Claims
 pub mod Shown
-pub mod Exported
 pub mod Lines
