@@ -3,7 +3,8 @@ pub mod Numbers
 pub mod Stages
 pub mod Sound
 pub mod Refusals
-pub mod Batches
 pub mod Claims
-pub mod Shown
 pub mod Lines
+pub mod Batches
+pub mod Races
+pub mod Shown

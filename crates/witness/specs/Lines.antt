@@ -2,7 +2,7 @@
 -- holds job i, so that a job tells where it was read. The pops and the claim are played elsewhere.
 use mathlib.Core.Path.{_≡_, refl}
 use mathlib.Core.List.{List, [], _∷_, map}
-use Prim.Native.Nat.{ℕ}
+use Prim.Native.Nat.{ℕ, zero, suc, _+_}
 use lib.Count.{ones, onesIn}
 use lib.IntN.{pos, negsuc}
 use lib.ListN.{set}
@@ -54,7 +54,11 @@ use Rattle.machine.specs.Sound.{soundB}
 use Rattle.machine.specs.Claim.{freeRing}
 use Rattle.machine.specs.Setup.{freshMachine}
 use Rattle.machine.specs.Step.{gateOf, stepOf}
-use Rattle.witness.specs.Shown.{from}
+
+-- n numbers from i on: a pool's cells tell where they lie
+unfoldable pub from : ℕ → ℕ → List ℕ
+from i zero = []
+from i (suc n) = i ∷ from (i + 1) n
 
 -- ---- a line: the thread's own queue, another queue, the stage; and what a step leaves of them, its answer, and the pool
 

@@ -1,7 +1,7 @@
 -- A queue's ring is shown as the caller's own cells. An unsound state, a wrong pool length or a queue that is not there shows an empty part.
 use mathlib.Core.Path.{_≡_, refl}
 use mathlib.Core.List.{List, [], _∷_, map}
-use Prim.Native.Nat.{ℕ, zero, suc, _+_, _-_, _^_}
+use Prim.Native.Nat.{ℕ, _-_, _^_}
 use lib.Count.{ones, onesIn}
 use lib.IntN.{pos}
 use Rattle.base.specs.Below.{allBelow}
@@ -16,11 +16,7 @@ use Rattle.machine.specs.Setup.{zeroMachine, freshMachine}
 use Rattle.machine.specs.Step.{gateOf}
 use Rattle.machine.specs.Shown.{shownOf}
 use Rattle.witness.specs.Stages.{ringAt}
-
--- n numbers from i on: a pool's cells tell where they lie
-unfoldable pub from : ℕ → ℕ → List ℕ
-from i zero = []
-from i (suc n) = i ∷ from (i + 1) n
+use Rattle.witness.specs.Lines.{from}
 
 -- a machine, a pool of so many cells, a queue, and the cells that are shown
 pub record Row : Type 0 where
