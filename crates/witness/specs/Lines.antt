@@ -181,12 +181,15 @@ all-pushes = refl
 abbrev steal : StealStage → Stage
 steal s = Steal 1 s
 
--- a ring that the other queue has, and one that it has no more
+-- a ring that the other queue has, and two that it has no more: the place of the second is in use again
 abbrev new : Ring
 new = ring 1 1 64
 
 abbrev old : Ring
 old = ring 7 2 64
+
+abbrev again : Ring
+again = ring 7 1 64
 
 abbrev pub steals : List Line
 steals =
@@ -203,6 +206,7 @@ steals =
     -- load ring: another number: Retry
     goes q o (steal (T.ReloadRing (at 3) new 259)) (steal (T.Exchange (at 3) new 259)) ∷
     ends q o (steal (T.ReloadRing (at 3) old 515)) (B.Stolen Retry) ∷
+    ends q o (steal (T.ReloadRing (at 3) again 259)) (B.Stolen Retry) ∷
     -- compare-exchange f to f + 1: lost: Retry. Success
     line q o (steal (T.Exchange (at 3) new 259)) q (other Fifo 4 5) Idle (B.Stolen (Success 259)) pool ∷
     ends q o (steal (T.Exchange (at 2) new 258)) (B.Stolen Retry) ∷
@@ -311,6 +315,9 @@ first = H.Job 259
 abbrev stale : InHand → Haul
 stale h = record { ring = old; f = at 3; n = 3; b = at 5; «in_hand» = h }
 
+abbrev stale-again : InHand → Haul
+stale-again h = record { ring = again; f = at 3; n = 3; b = at 5; «in_hand» = h }
+
 -- the front that was loaded is another's
 abbrev late : InHand → Haul
 late h = record { ring = new; f = at 2; n = 3; b = at 5; «in_hand» = h }
@@ -333,6 +340,7 @@ fromFifo =
     goes q o (all (haul 3 H.Nothing) A.ReloadRing) (all (haul 3 H.Nothing) A.Exchange) ∷
     ends q o (all (stale H.Nothing) A.ReloadRing) (B.Stolen Retry) ∷
     ends q o (all (stale first) A.ReloadRing) (B.Stolen Retry) ∷
+    ends q o (all (stale-again H.Nothing) A.ReloadRing) (B.Stolen Retry) ∷
     -- compare-exchange f to f + n, or to f + n + 1 (lost: Retry)
     takes q (other Fifo 3 8) (all (haul 3 H.Nothing) A.Exchange) (other Fifo 6 8) (put (haul 3 H.Nothing) W.StoreBack) ∷
     takes q (other Fifo 3 8) (all (haul 3 first) A.Exchange) (other Fifo 7 8) (put (haul 3 first) W.StoreBack) ∷
@@ -387,6 +395,7 @@ fromLifo =
     goes q lifo (one (haul 3 H.Nothing) (E.ReloadRing 2 259)) (one (haul 3 H.Nothing) (E.Exchange 2 259)) ∷
     goes q lifo (one (stale H.Nothing) (E.ReloadRing 2 515)) (put (stale-with 2 H.Nothing) reversing) ∷
     ends q lifo (one (stale H.Nothing) (E.ReloadRing 0 515)) (B.Stolen Retry) ∷
+    ends q lifo (one (stale-again H.Nothing) (E.ReloadRing 0 259)) (B.Stolen Retry) ∷
     goes q lifo (one (stale first) (E.ReloadRing 0 515)) (put (stale-with 0 first) W.StoreBack) ∷
     -- compare-exchange f to f + 1 (lost: stop); f goes up
     takes q lifo (one (haul 3 H.Nothing) (E.Exchange 2 700)) (other Lifo 4 8) (put (from-front 4 3 H.Nothing) (W.WriteOne 2 700)) ∷
