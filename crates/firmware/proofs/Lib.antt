@@ -1,3 +1,4 @@
 pub mod Counts
 pub mod Rows
 pub mod Played
+pub mod Calls

@@ -5,3 +5,4 @@ pub mod Theorem
 pub mod Wrong
 pub mod Named
 pub mod GaveUp
+pub mod Played

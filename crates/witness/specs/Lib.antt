@@ -1,0 +1,11 @@
+pub mod Steals
+pub mod Numbers
+pub mod Stages
+pub mod Sound
+pub mod Refusals
+pub mod Claims
+pub mod Lines
+pub mod Pops
+pub mod Batches
+pub mod Races
+pub mod Shown

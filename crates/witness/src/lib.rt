@@ -1,0 +1,1 @@
+// Computed examples for each clause of the definitions, which a reader can believe without them. In specs/ alone: no code.
