@@ -2,4 +2,3 @@ pub mod Play
 pub mod Table
 pub mod Sizes
 pub mod Race
-pub mod Refused
