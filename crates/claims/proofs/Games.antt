@@ -1,7 +1,7 @@
 -- What is claimed of 01's games, by their names: C1 to C10 in their own words, operations run alone on fresh queues, and C11 to C13. An operation is its
 -- thread, its answer and its steps; what the queues then hold stands front to back.
 use mathlib.Core.Path.{_≡_, refl}
-use mathlib.Core.List.{List, [], _∷_, _++_}
+use mathlib.Core.List.{List, [], _∷_}
 use Prim.Native.Nat.{ℕ}
 use lib.Count.{ones, onesIn}
 use lib.IntN.{pos, negsuc}

@@ -1,6 +1,6 @@
 -- What is claimed of whole sessions: over the machine's own calls, and over the words that firmware keeps.
 use mathlib.Core.Path.{_≡_}
-use mathlib.Core.Bool.{Bool, true}
+use mathlib.Core.Bool.{true}
 use mathlib.Core.Logic.{_⊎_}
 use mathlib.Core.List.{List, [], _∷_}
 use Prim.Native.Nat.{ℕ, suc, _+_, _^_, _≤_, _<_}
@@ -14,7 +14,6 @@ use Rattle.core.specs.declared.stage.LengthStage.the-variants.{LoadFront}
 use Rattle.core.specs.declared.stage.Stage.the-variants.{Length}
 use Rattle.core.specs.declared.answer.Answer.{Answer}
 use Rattle.core.specs.declared.answer.Answer.the-variants as A
-use Rattle.core.specs.declared.answer.Refusal.the-variants.{PoolLength, Unsound}
 use Rattle.keeps.specs.declared.Kept.the-variants.{Built, Held}
 use Rattle.keeps.specs.Kept.{keptOf}
 use Rattle.gate.specs.declared.Operation.{Operation}
@@ -23,8 +22,7 @@ use Rattle.machine.specs.State.{queueAt, stageAt}
 use Rattle.machine.specs.Sound.{soundB}
 use Rattle.machine.specs.Setup.{zeroMachine, setupOf}
 use Rattle.machine.specs.Begin.{beginOf}
-use Rattle.slots.specs.Answer.{answerWords}
-use Rattle.words.specs.Slices.{machineSize, machineB}
+use Rattle.words.specs.Slices.{machineB}
 use Rattle.theorem.specs.History as H
 use Rattle.theorem.specs.History.{Call, Lends, Session, session, accepted, answered, standing, AtRest, AllAllowed, AllUnsound}
 use Rattle.theorem.specs.GaveUp.{GivesUp, Leaves, Untouched}

@@ -2,7 +2,7 @@
 -- job is accepted once, and stands in the queue.
 use mathlib.Core.Path.{_≡_, refl}
 use mathlib.Core.List.{List, [], _∷_}
-use Prim.Native.Nat.{ℕ, _+_, _-_, _≤_}
+use Prim.Native.Nat.{ℕ, zero, suc, _+_, _-_}
 use native.Mathlib.Omega.{arith}
 use lib.Count.{ones, onesIn}
 use lib.ListN.{replicate}
@@ -103,12 +103,17 @@ lends : Lends 1 (callsIn a-push)
 unfolding Lends callsIn kindOf
 lends = (λ l e h. own-pool l e, (λ l e h. own-pool l e, (λ l e h. own-pool l e, (λ l e h. own-pool l e, (λ l e h. own-pool l e, tt)))))
 
+-- no operation is in flight
+at-rest : AtRest (machineIn (words 1 0 0 0))
+unfolding machineIn indexOf
+at-rest zero h = refl
+at-rest (suc t) h = absurd (omega arith)
+
 -- so the theorem speaks of it
-pub holds-of-it : (answeredIn a-push 7 ≤ acceptedIn (λ t. 0) a-push 7)
-    × (AtRest (machineIn (words 1 0 0 0)) → acceptedIn (λ t. 0) a-push 7 ≡ answeredIn a-push 7 + standing (machineIn (words 1 0 0 0)) (cells 7) 7)
+pub holds-of-it : acceptedIn (λ t. 0) a-push 7 ≡ answeredIn a-push 7 + standing (machineIn (words 1 0 0 0)) (cells 7) 7
 unfolding wordsAt poolAt
 holds-of-it =
-    conserved-in-words (replicate 91 0) (cells 0) 1 0 1 refl (words 0 0 0 0) done (set-up .0) (set-up .1) a-push a-push-is-a-row (omega arith) lends 7
+    conserved-in-words (replicate 91 0) (cells 0) 1 0 1 refl (words 0 0 0 0) done (set-up .0) (set-up .1) a-push a-push-is-a-row (omega arith) lends 7 .1 at-rest
 
 pub accepted-once : (acceptedIn (λ t. 0) a-push 7 ≡ 1) × (answeredIn a-push 7 ≡ 0)
 unfolding acceptedIn answeredIn kindOf one upd

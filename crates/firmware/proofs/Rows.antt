@@ -28,7 +28,7 @@ use Rattle.slots.specs.Queue.{flavorsOf}
 use Rattle.slots.specs.Answer.{answerWords}
 use Rattle.words.specs.Slices.{machineSize, machineB}
 use Rattle.theorem.specs.History.{Call, asks, lent, poolAfter, calledOf, Lends, Session, runBy, run, session, jobsAfter}
-use Rattle.theorem.specs.History.{acceptedBy, answeredBy, acceptedFrom, accepted, answered, standing, AtRest, Reached}
+use Rattle.theorem.specs.History.{acceptedBy, answeredBy, acceptedFrom, answered, standing, AtRest, Reached}
 use Rattle.theorem.proofs.Runs.{setup-cells}
 use Rattle.theorem.proofs.Refused.{lent-back}
 use Rattle.theorem.proofs.Theorem.{conserved, reached-sound}

@@ -12,7 +12,6 @@ use Rattle.index.specs.Index.{spansB}
 use Rattle.ring.specs.Capacity.{allowedB}
 use Rattle.ring.proofs.CapacityLaws.{allowed-is}
 use Rattle.cells.specs.Cells.{placeCells}
-use Rattle.core.specs.declared.queue.Queue.{Queue}
 use Rattle.sound.specs.Sound.{countsB, ringSound, queueSound}
 use Rattle.machine.specs.declared.state.Machine.{Machine}
 use Rattle.machine.specs.declared.shown.Part.{Part}

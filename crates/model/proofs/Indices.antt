@@ -1,5 +1,5 @@
 -- No index passes the number of calls, but for a front that a FIFO pop is about to put back: so fewer than 2^62 calls never wrap a 64-bit index.
-use mathlib.Core.Path.{_≡_, refl, subst}
+use mathlib.Core.Path.{_≡_, refl}
 use mathlib.Core.Bool.{_&&_}
 use Prim.Native.Nat.{ℕ, suc, _+_, _-_, _≤_, _<_}
 use native.Mathlib.Omega.{arith}

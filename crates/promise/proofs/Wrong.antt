@@ -27,7 +27,7 @@ use Rattle.machine.specs.Claim.{freeRing}
 use Rattle.machine.specs.Setup.{freshMachine, setupOf}
 use Rattle.machine.specs.Step.{gateOf, stepOf}
 use Rattle.machine.specs.Begin.{beginOf}
-use Rattle.games.specs.Play.{setup, begin, steps, alone, finish, answerOf}
+use Rattle.games.specs.Play.{setup, begin, steps, alone, finish}
 use Rattle.promise.specs.Machines.{Steps, refuses, says-empty, says-retry, stands-still, leaves-stolen, does-all, makes-up, copies-all, writes-refused, tested}
 
 abbrev at : Steps → After → After

@@ -21,7 +21,7 @@ pub struct StageWords {
     pub step: u64,
     pub f: u64,
     pub b: u64,
-    // How many jobs: wanted, or seen by a pop; of a batch before its load of back the limit less one.
+    // How many jobs are wanted; of a pop the difference that it saw, less one; of a batch before its load of back the limit less one.
     pub n: u64,
     // How many were copied, written or swapped; of a resize the index that is copied next.
     pub i: u64,

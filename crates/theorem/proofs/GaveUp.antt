@@ -38,7 +38,7 @@ use Rattle.gate.specs.declared.Gate.{Gate}
 use Rattle.gate.specs.declared.Gate.the-variants.{Open, Shut}
 use Rattle.gate.specs.Gate.{beginTests, stepTests, thenGate}
 use Rattle.machine.specs.declared.state.Machine.{Machine}
-use Rattle.machine.specs.State.{After, refused, idleThread, queueAt, stageAt}
+use Rattle.machine.specs.State.{After, refused, idleThread, stageAt}
 use Rattle.machine.specs.Sound.{soundB}
 use Rattle.machine.specs.Setup.{zeroMachine, setupOf}
 use Rattle.machine.specs.Step.{gateOf, passing, ran, stepOf}

@@ -1,13 +1,11 @@
 -- What the invariant gives on the way, of every machine behind which a state of the model stands: so of every one that a session reaches.
 use mathlib.Core.Path.{_≡_, refl, sym, ap, ap₂, _∙_, subst}
 use mathlib.Core.Bool.{Bool, true, false}
-use mathlib.Core.Logic.{_⊎_, inl, inr, ⊎-elim}
+use mathlib.Core.Logic.{_⊎_, inl, inr}
 use mathlib.Core.List.{List}
 use Prim.Native.Nat.{ℕ, suc, _^_, _≤_, _<_}
 use native.Mathlib.Omega.{arith}
-use lib.Dec.{T}
 use lib.IntN.{pos}
-use Rattle.base.specs.Tests.{le-or-lt}
 use Rattle.ring.specs.declared.Ring.{Ring}
 use Rattle.index.specs.declared.Index.{Index}
 use Rattle.index.specs.Index.{differenceOf, lengthOf}
@@ -19,30 +17,19 @@ use Rattle.core.specs.declared.stage.Stage.the-variants as G
 use Rattle.keeps.specs.declared.Kept.the-variants as Q
 use Rattle.keeps.specs.Kept.{keptOf}
 use Rattle.machine.specs.declared.state.Machine.{Machine}
-use Rattle.core.specs.declared.answer.Answer.{Answer as CodeAnswer}
-use Rattle.core.specs.declared.answer.Answer.the-variants as B
-use Rattle.core.specs.declared.answer.Refusal.{Refusal}
-use Rattle.core.specs.declared.answer.Refusal.the-variants as K
-use Rattle.core.specs.declared.answer.Shortage.{Shortage}
-use Rattle.machine.specs.State.{After, queueAt, stageAt}
-use Rattle.machine.specs.Step.{stepOf}
-use Rattle.model.specs.Stage.{Flavour, Queue, cap, job, own, byPop, byBatch, length-back, length-front, source, Stage, idle, push, fifoPop, lifoPop}
-use Rattle.model.specs.Stage.{shrink, steal, len, ownBatch, Answer, working, done, nothing, empty, success, retry, moved, twoNumbers, tooLarge}
-use Rattle.model.specs.Stage.{noRing, Out}
-use Rattle.model.specs.Tables.{Offer}
-use Rattle.model.specs.Machine.{State, touched, busy, stepAt}
+use Rattle.machine.specs.State.{queueAt, stageAt}
+use Rattle.model.specs.Stage.{Flavour, Queue, cap, own, length-back, length-front, source, Stage, idle, push, fifoPop, lifoPop}
+use Rattle.model.specs.Stage.{shrink, steal, len, ownBatch}
+use Rattle.model.specs.Machine.{State}
 use Rattle.model.specs.Invariant.{Ok, Aware}
 use Rattle.model.specs.Memory.{Held, Built, Live}
-use Rattle.model.specs.Early.{StillEarly}
 use Rattle.model.proofs.Indices.{indices}
 use Rattle.model.proofs.Places.{held-named, live-named}
-use Rattle.model.proofs.GaveUp.{gave-up}
-use Rattle.link.specs.Map.{ix, stageFor, answerFor, offerFor}
+use Rattle.link.specs.Map.{ix, stageFor}
 use Rattle.link.specs.Linked.{Behind}
 use Rattle.link.proofs.AgreeResize.{true-false}
 use Rattle.link.proofs.KeptLaws.{holds-kept, Keeping, keeps-nothing, keeps-held, keeps-built, keeping}
-use Rattle.link.proofs.TurnLaws.{idle-is, small, Turned, turn}
-use Rattle.theorem.proofs.OneCall.{to-T, gate-none, gate-in}
+use Rattle.link.proofs.TurnLaws.{small}
 
 -- the rings of a machine that are live: queue k's current ring, and what thread t keeps
 pub data LiveRing (m : Machine) : Ring → Type 0 where

@@ -14,7 +14,7 @@ use Rattle.machine.specs.Step.{gateOf, stepOf}
 use Rattle.machine.specs.Begin.{beginOf}
 use Rattle.machine.specs.Call.{callOf}
 use Rattle.model.specs.Count.{sumTo}
-use Rattle.theorem.specs.History.{pool, answered, other, Lent, Call, asks, lentBy, lent, poolAfter, calledOf, Session, runBy, run, jobsAfter}
+use Rattle.theorem.specs.History.{pool, answered, other, Lent, Call, asks, lent, poolAfter, calledOf, Session, runBy, run, jobsAfter}
 use Rattle.theorem.specs.History.{acceptedFrom, standing, AllUnsound}
 
 -- a list that is lent and comes back as it was leaves the pool as it was
