@@ -1,18 +1,18 @@
 // The step at a stage, of the one queue that it touches.
 ghost use Rattle.std.specs.Prelude.{◌≡◌};
-ghost use Rattle.std.specs.Out.{left, going};
-ghost use Rattle.op_push.specs.Push.{pushOf};
+ghost use Rattle.parts.specs.Out.{left, going};
+ghost use Rattle.op_push.specs.Push.{push_of};
 ghost use Rattle.op_pop.specs.Pop.{pop_of};
-ghost use Rattle.op_steal.specs.Steal.{stealOf};
-ghost use Rattle.op_length.specs.Length.{lengthStepOf, ownBatchOf};
+ghost use Rattle.op_steal.specs.Steal.{steal_of};
+ghost use Rattle.op_length.specs.Length.{length_step_of, own_batch_of};
 ghost use Rattle.op_batch_source.specs.Source.{source_of};
 ghost use Rattle.op_batch_own.specs.Own.{own_of};
-ghost use Rattle.advance.specs.Advance.{ofPush, ofPop, ofSteal, ofLength, ofOwnBatch, ofBatch, beside, advanceOf};
+ghost use Rattle.advance.specs.Advance.{of_push, of_pop, of_steal, of_length, of_own_batch, of_batch, beside, advance_of};
 
-use core::answer::{Answer, Refusal};
-use core::out::{Claim, Out};
-use core::queue::{Flavor, Queue};
-use core::stage::{
+use parts::answer::{Answer, Refusal};
+use parts::out::{Claim, Out};
+use parts::queue::{Flavor, Queue};
+use parts::stage::{
     LengthStage, OwnStage, PopStage, Popper, PushStage, SourceStage, Stage, StealStage,
 };
 use op_batch::BatchOut;
@@ -26,7 +26,7 @@ use op_steal::{StealOut, steal_step};
 
 // What an operation's step leaves, as the thread's stage and answer.
 fn push_at(job: u64, at: PushStage, q: Queue, claim: Claim, pool: &mut [u64]) -> Out
-    ensures { left result pool.new ≡ beside (ofPush job) (pushOf job at q claim pool.old) }
+    ensures { left result pool.new ≡ beside (of_push job) (push_of job at q claim pool.old) }
 {
     match push_step(job, at, q, claim, pool) {
         PushOut::Going(r, next) => {
@@ -39,7 +39,7 @@ fn push_at(job: u64, at: PushStage, q: Queue, claim: Claim, pool: &mut [u64]) ->
 }
 
 fn pop_at(popper: Popper, at: PopStage, q: Queue, claim: Claim, pool: &mut [u64]) -> Out
-    ensures { left result pool.new ≡ beside (ofPop popper) (pop_of popper at q claim pool.old) }
+    ensures { left result pool.new ≡ beside (of_pop popper) (pop_of popper at q claim pool.old) }
 {
     match pop_step(popper, at, q, claim, pool) {
         PopOut::Going(r, next) => {
@@ -52,7 +52,7 @@ fn pop_at(popper: Popper, at: PopStage, q: Queue, claim: Claim, pool: &mut [u64]
 }
 
 fn steal_at(source: usize, at: StealStage, q: Queue, pool: &[u64]) -> Out
-    ensures { result ≡ ofSteal source (stealOf at q pool.now) }
+    ensures { result ≡ of_steal source (steal_of at q pool.now) }
 {
     match steal_step(at, q, pool) {
         StealOut::Going(r, next) => {
@@ -65,7 +65,7 @@ fn steal_at(source: usize, at: StealStage, q: Queue, pool: &[u64]) -> Out
 }
 
 fn length_at(queue: usize, at: LengthStage, q: Queue) -> Out
-    ensures { result ≡ ofLength queue (lengthStepOf at q) }
+    ensures { result ≡ of_length queue (length_step_of at q) }
 {
     match length_step(at, q) {
         LengthOut::Going(r, next) => {
@@ -78,7 +78,7 @@ fn length_at(queue: usize, at: LengthStage, q: Queue) -> Out
 }
 
 fn own_batch_at(at: LengthStage, q: Queue) -> Out
-    ensures { result ≡ ofOwnBatch (ownBatchOf at q) }
+    ensures { result ≡ of_own_batch (own_batch_of at q) }
 {
     match own_batch_step(at, q) {
         LengthOut::Going(r, next) => {
@@ -103,7 +103,7 @@ fn to_own(source: usize, q: Queue, at: OwnStage) -> Out
 }
 
 fn of_batch(source: usize, out: BatchOut) -> Out
-    ensures { result ≡ ofBatch source out }
+    ensures { result ≡ of_batch source out }
 {
     match out {
         BatchOut::Source(q, at) => {
@@ -119,20 +119,20 @@ fn of_batch(source: usize, out: BatchOut) -> Out
 }
 
 fn source_at(own: Flavor, source: usize, at: SourceStage, q: Queue, pool: &[u64]) -> Out
-    ensures { result ≡ ofBatch source (source_of own at q pool.now) }
+    ensures { result ≡ of_batch source (source_of own at q pool.now) }
 {
     of_batch(source, source_step(own, at, q, pool))
 }
 
 fn own_at(source: usize, at: OwnStage, q: Queue, claim: Claim, pool: &mut [u64]) -> Out
-    ensures { left result pool.new ≡ beside (ofBatch source) (own_of at q claim pool.old) }
+    ensures { left result pool.new ≡ beside (of_batch source) (own_of at q claim pool.old) }
 {
     of_batch(source, own_step(at, q, claim, pool))
 }
 
 // own: the flavour of the thread's own queue; q: the queue that the step touches; claim: what a claim found, where the step makes one.
 pub fn advance(stage: Stage, own: Flavor, q: Queue, claim: Claim, pool: &mut [u64]) -> Out
-    ensures { left result pool.new ≡ advanceOf stage own q claim pool.old }
+    ensures { left result pool.new ≡ advance_of stage own q claim pool.old }
 {
     match stage {
         Stage::Idle => {

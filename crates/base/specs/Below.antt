@@ -6,11 +6,11 @@ unfoldable pub all_below : ℕ → (ℕ → Bool) → Bool
 all_below zero f = true
 all_below (suc n) f = all_below n f && f n
 
-unfoldable pub anyBelow : ℕ → (ℕ → Bool) → Bool
-anyBelow zero f = false
-anyBelow (suc n) f = anyBelow n f || f n
+unfoldable pub any_below : ℕ → (ℕ → Bool) → Bool
+any_below zero f = false
+any_below (suc n) f = any_below n f || f n
 
 -- the first of the n numbers from i on of which f does not hold, and i + n where there is none
-unfoldable pub firstNot : (ℕ → Bool) → ℕ → ℕ → ℕ
-firstNot f zero i = i
-firstNot f (suc n) i = pick (f i) (firstNot f n (i + 1)) i
+unfoldable pub first_not : (ℕ → Bool) → ℕ → ℕ → ℕ
+first_not f zero i = i
+first_not f (suc n) i = pick (f i) (first_not f n (i + 1)) i

@@ -1,4 +1,4 @@
--- Tests: a table branches by `pick`, a proof goes by cases with `by-test`, and `omega tests` reads what a test told.
+-- Tests: a table branches by `pick`, a proof goes by cases with `by_test`, and `omega tests` reads what a test told.
 use Rattle.std.specs.Prelude.{Bool, true, false, not, ◌&&◌, ◌⊎◌, ◌≡◌, refl, ℕ, ◌≤◌, ◌<◌, T, leb, eqb}
 use Rattle.std.proofs.Common.{inl, inr, subst, arith, leb→le, eqb→eq, leb-true, leb-false}
 use Rattle.std.proofs.Math.Dec.{nleb→lt, eqb_refl}
@@ -8,9 +8,9 @@ pick true a b = a
 pick false a b = b
 
 -- what holds on both arms of a test holds of the test
-pub by-test {ℓ} : {A : Type ℓ} (P : A → Type 0) (b : Bool) (x y : A) → (T b → P x) → (T (not b) → P y) → P (pick b x y)
-by-test P true x y f g = f tt
-by-test P false x y f g = g tt
+pub by_test {ℓ} : {A : Type ℓ} (P : A → Type 0) (b : Bool) (x y : A) → (T b → P x) → (T (not b) → P y) → P (pick b x y)
+by_test P true x y f g = f tt
+by_test P false x y f g = g tt
 
 pub neqb→ne : (m n : ℕ) → T (not (eqb m n)) → m ≡ n → ⊥
 neqb→ne m n t e = go (eqb m n) t (subst (λ (k : ℕ). T (eqb m k)) e (eqb_refl m))
@@ -22,8 +22,8 @@ neqb→ne m n t e = go (eqb m n) t (subst (λ (k : ℕ). T (eqb m k)) e (eqb_ref
 pub ruleset tests = (arith, leb→le, nleb→lt, eqb→eq, neqb→ne)
 
 -- of two numbers, which is not the smaller
-pub le-or-lt : (m n : ℕ) → (m ≤ n) ⊎ (n < m)
-le-or-lt m n = go (leb m n) refl
+pub le_or_lt : (m n : ℕ) → (m ≤ n) ⊎ (n < m)
+le_or_lt m n = go (leb m n) refl
   where
     go : (b : Bool) → leb m n ≡ b → (m ≤ n) ⊎ (n < m)
     go true e = inl (leb-true m n e)

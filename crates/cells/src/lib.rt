@@ -1,6 +1,6 @@
 // The cells of a ring in the lent pool. A ring occupies the first cells of its place, and is worked on as that stretch of the pool alone.
 ghost use Rattle.std.specs.Prelude.{◌≡◌, ◌<◌, length, get_or, set};
-ghost use Rattle.cells.specs.Cells.{standsB, read_of, written_of, copiedOf};
+ghost use Rattle.cells.specs.Cells.{stands_b, read_of, written_of, copied_of};
 
 use index::Index;
 use ring::Ring;
@@ -10,7 +10,7 @@ pub const PLACE_CELLS: usize = Ring::LARGEST;
 
 // The pool has the ring's place, and a ring may have its capacity. Of a sound machine's rings and its pool this is always so.
 fn stands(pool: &[u64], ring: Ring) -> bool
-    ensures { result ≡ standsB pool.now ring }
+    ensures { result ≡ stands_b pool.now ring }
 {
     if ring.place.0 < pool.len() / PLACE_CELLS {
         return Ring::allowed(ring.capacity);
@@ -60,7 +60,7 @@ pub fn write(pool: &mut [u64], ring: Ring, i: Index, job: u64)
 
 // The cell of index i is copied from one ring to another.
 pub fn copy(pool: &mut [u64], from: Ring, to: Ring, i: Index)
-    ensures { pool.new ≡ copiedOf pool.old from to i }
+    ensures { pool.new ≡ copied_of pool.old from to i }
 {
     let job = read(pool, from, i);
     write(pool, to, i, job);

@@ -2,9 +2,9 @@
 use Rattle.std.proofs.Common.{◌≡◌, ℕ, List}
 use Rattle.machine.specs.declared.state.Machine.{Machine}
 use Rattle.machine.specs.Step.{step_of}
-use Rattle.theorem.specs.History.{Call, run_by, accepted, acceptedFrom, answered, standing}
+use Rattle.theorem.specs.History.{Call, run_by, accepted, accepted_from, answered, standing}
 use Rattle.theorem.proofs.Wrong as T
-use Rattle.promise.specs.Machines.{Steps, refuses, says-empty, says-retry, stands-still, leaves-stolen, does-all, makes-up, copies-all, writes-refused}
+use Rattle.promise.specs.Machines.{Steps, refuses, says_empty, says_retry, stands_still, leaves_stolen, does_all, makes_up, copies_all, writes_refused}
 use Rattle.promise.proofs.Wrong as W
 
 abbrev ShutOut : Steps → Type 0
@@ -13,35 +13,35 @@ ShutOut w = ((m : Machine) (cells : List ℕ) (t : ℕ) → w m cells t ≡ step
 pub always_refuses : ShutOut refuses
 always_refuses = W.always_refuses
 
-pub always-empty : ShutOut says-empty
-always-empty = W.always-empty
+pub always_empty : ShutOut says_empty
+always_empty = W.always_empty
 
-pub always-retry : ShutOut says-retry
-always-retry = W.always-retry
+pub always_retry : ShutOut says_retry
+always_retry = W.always_retry
 
-pub never-moves : ShutOut stands-still
-never-moves = W.never-moves
+pub never_moves : ShutOut stands_still
+never_moves = W.never_moves
 
-pub copies-jobs : ShutOut leaves-stolen
-copies-jobs = W.copies-jobs
+pub copies_jobs : ShutOut leaves_stolen
+copies_jobs = W.copies_jobs
 
-pub all-at-once : ShutOut does-all
-all-at-once = W.all-at-once
+pub all_at_once : ShutOut does_all
+all_at_once = W.all_at_once
 
-pub makes-up-lengths : ShutOut makes-up
-makes-up-lengths = W.makes-up-lengths
+pub makes_up_lengths : ShutOut makes_up
+makes_up_lengths = W.makes_up_lengths
 
-pub copies-whole-rings : ShutOut copies-all
-copies-whole-rings = W.copies-whole-rings
+pub copies_whole_rings : ShutOut copies_all
+copies_whole_rings = W.copies_whole_rings
 
-pub changes-refused : ShutOut writes-refused
-changes-refused = W.changes-refused
+pub changes_refused : ShutOut writes_refused
+changes_refused = W.changes_refused
 
-pub copies-fails : (m : Machine) (cells : List ℕ)
+pub copies_fails : (m : Machine) (cells : List ℕ)
     → (accepted (run_by T.copies m cells T.twice).history 7 ≡ 1) × (answered (run_by T.copies m cells T.twice).history 7 ≡ 2)
-copies-fails = T.copies-fails
+copies_fails = T.copies_fails
 
-pub empty-passes : (m : Machine) (cells : List ℕ) (calls : List Call) (jobs : ℕ → ℕ) (j : ℕ)
-    → (acceptedFrom jobs (run_by T.says-empty m cells calls).history j ≡ 0) × (answered (run_by T.says-empty m cells calls).history j ≡ 0)
-    × (standing (run_by T.says-empty m cells calls).machine (run_by T.says-empty m cells calls).cells j ≡ standing m cells j)
-empty-passes = T.empty-passes
+pub empty_passes : (m : Machine) (cells : List ℕ) (calls : List Call) (jobs : ℕ → ℕ) (j : ℕ)
+    → (accepted_from jobs (run_by T.says_empty m cells calls).history j ≡ 0) × (answered (run_by T.says_empty m cells calls).history j ≡ 0)
+    × (standing (run_by T.says_empty m cells calls).machine (run_by T.says_empty m cells calls).cells j ≡ standing m cells j)
+empty_passes = T.empty_passes

@@ -2,13 +2,13 @@
 // ring lies into two.
 ghost use Rattle.std.specs.Prelude.{◌≡◌, length};
 ghost use Rattle.kinds.specs.Kinds.{kind_of};
-ghost use Rattle.words.specs.Slices.{machineSize};
-ghost use Rattle.export.specs.Exported.{unsoundWords, leftWords, setupWords, SetupTold, askedWords, AskedTold, call_words, CallTold, shownWords};
+ghost use Rattle.words.specs.Slices.{machine_size};
+ghost use Rattle.export.specs.Exported.{unsound_words, left_words, setup_words, SetupTold, asked_words, AskedTold, call_words, CallTold, shown_words};
 ghost use Rattle.export.specs.Words.{Told};
 
 use crate::reading::machine_in;
 use crate::writing::store;
-use core::answer::{Answer, Refusal};
+use parts::answer::{Answer, Refusal};
 use gate::Request;
 use kinds::{KindRead, kind_of, request_of};
 use machine::state::{Called, Machine};
@@ -21,15 +21,15 @@ pub const NO_CALL: u64 = 11;
 
 // Words that are no machine are refused.
 fn no_machine() -> [u64; 4]
-    ensures { result ≡ unsoundWords }
+    ensures { result ≡ unsound_words }
 {
     answer_words(Answer::Refused(Refusal::Unsound))
 }
 
 // What a call left, as words: the machine's, and the answer's.
 fn leave(machine: &mut [u64], called: Called) -> [u64; 4]
-    ensures result_after { (machine.new, result) ≡ leftWords machine.old called }
-    ensures told { length machine.old ≡ machineSize → Told machine.new called.machine }
+    ensures result_after { (machine.new, result) ≡ left_words machine.old called }
+    ensures told { length machine.old ≡ machine_size → Told machine.new called.machine }
 {
     store(machine, called.machine);
     let answer = called.answer;
@@ -44,7 +44,7 @@ pub fn setup(
     places: usize,
     answer: &mut [u64; 4],
 )
-    ensures answer_after { (machine.new, answer.new) ≡ setupWords machine.old pool.now queues flavors places }
+    ensures answer_after { (machine.new, answer.new) ≡ setup_words machine.old pool.now queues flavors places }
     ensures setup_told { SetupTold machine.old pool.now queues flavors places machine.new }
 {
     if machine.len() != MACHINE_WORDS {
@@ -57,7 +57,7 @@ pub fn setup(
 
 // A call that is asked for.
 fn ask(machine: &mut [u64], pool: &mut [u64], thread: usize, request: Request) -> [u64; 4]
-    ensures result_after { (machine.new, pool.new, result) ≡ askedWords machine.old pool.old thread request }
+    ensures result_after { (machine.new, pool.new, result) ≡ asked_words machine.old pool.old thread request }
     ensures asked_told { AskedTold machine.old pool.old thread request machine.new }
 {
     if !is_machine(machine) {
@@ -98,7 +98,7 @@ pub fn call(
 
 // Where the queue's ring starts in a pool of so many cells, and how many cells it has. The cells themselves are not looked at.
 pub fn shown(machine: &[u64], cells: usize, queue: usize, part: &mut [u64; 2])
-    ensures { part.new ≡ shownWords machine.now cells queue }
+    ensures { part.new ≡ shown_words machine.now cells queue }
 {
     if !is_machine(machine) {
         *part = [0, 0];

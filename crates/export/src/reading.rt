@@ -1,10 +1,10 @@
 // The machine that words are read as; whatever they are, there is one.
 ghost use Rattle.std.specs.Prelude.{◌≡◌};
-ghost use Rattle.slots.specs.Queue.{queueOf};
-ghost use Rattle.words.specs.Slices.{queueIn};
-ghost use Rattle.export.specs.Words.{queuesIn, threadIn, threadsIn, machineIn};
+ghost use Rattle.slots.specs.Queue.{queue_of};
+ghost use Rattle.words.specs.Slices.{queue_in};
+ghost use Rattle.export.specs.Words.{queues_in, thread_in, threads_in, machine_in};
 
-use core::queue::Queue;
+use parts::queue::Queue;
 use machine::state::{Machine, Thread};
 use ring::RingNumber;
 use slots::queue::queue_of;
@@ -12,13 +12,13 @@ use words::slices::{queue_in, stage_in, word};
 use words::stage::stage_of;
 
 fn queue_at(words: &[u64], at: usize) -> Queue
-    ensures { result ≡ queueOf (queueIn words.now at) }
+    ensures { result ≡ queue_of (queue_in words.now at) }
 {
     queue_of(queue_in(words, at))
 }
 
 fn queues_in(words: &[u64]) -> [Queue; 4]
-    ensures { result ≡ queuesIn words.now }
+    ensures { result ≡ queues_in words.now }
 {
     [
         queue_at(words, 3),
@@ -29,7 +29,7 @@ fn queues_in(words: &[u64]) -> [Queue; 4]
 }
 
 fn thread_in(words: &[u64], at: usize) -> Thread
-    ensures { result ≡ threadIn words.now at }
+    ensures { result ≡ thread_in words.now at }
 {
     Thread {
         stage: stage_of(stage_in(words, at)),
@@ -37,7 +37,7 @@ fn thread_in(words: &[u64], at: usize) -> Thread
 }
 
 fn threads_in(words: &[u64]) -> [Thread; 4]
-    ensures { result ≡ threadsIn words.now }
+    ensures { result ≡ threads_in words.now }
 {
     [
         thread_in(words, 27),
@@ -48,7 +48,7 @@ fn threads_in(words: &[u64]) -> [Thread; 4]
 }
 
 pub fn machine_in(words: &[u64]) -> Machine
-    ensures { result ≡ machineIn words.now }
+    ensures { result ≡ machine_in words.now }
 {
     Machine {
         queues: queues_in(words),

@@ -1,18 +1,18 @@
 // A machine written as words.
 ghost use Rattle.std.specs.Prelude.{◌≡◌, length};
-ghost use Rattle.slots.specs.Queue.{queueWords, queueOf};
-ghost use Rattle.words.specs.Stage.{stageWords, stageOf};
-ghost use Rattle.words.specs.Slices.{putQueue, putStage, machineSize};
-ghost use Rattle.export.specs.Words.{putCounts, putQueues, QueuesTold, putThreads, ThreadsTold, storedOf, Told};
+ghost use Rattle.slots.specs.Queue.{queue_words, queue_of};
+ghost use Rattle.words.specs.Stage.{stage_words, stage_of};
+ghost use Rattle.words.specs.Slices.{put_queue, put_stage, machine_size};
+ghost use Rattle.export.specs.Words.{put_counts, put_queues, QueuesTold, put_threads, ThreadsTold, stored_of, Told};
 
-use core::queue::{Queue, queue_of};
+use parts::queue::{Queue, queue_of};
 use machine::state::{Machine, Thread};
 use slots::queue::queue_words;
 use words::slices::{MACHINE_WORDS, put_queue, put_stage, put_word};
 use words::stage::stage_words;
 
 fn put_counts(words: &mut [u64], queues: usize, places: usize, next: u64)
-    ensures { words.new ≡ putCounts words.old queues places next }
+    ensures { words.new ≡ put_counts words.old queues places next }
 {
     put_word(words, 0, 0, queues as u64);
     put_word(words, 0, 1, places as u64);
@@ -20,14 +20,14 @@ fn put_counts(words: &mut [u64], queues: usize, places: usize, next: u64)
 }
 
 fn put_queue_at(words: &mut [u64], at: usize, q: Queue)
-    ensures words_after { words.new ≡ putQueue words.old at (queueWords q) }
-    ensures q_value { queueOf (queueWords q) ≡ q }
+    ensures words_after { words.new ≡ put_queue words.old at (queue_words q) }
+    ensures q_value { queue_of (queue_words q) ≡ q }
 {
     put_queue(words, at, queue_words(q));
 }
 
 fn put_queues(words: &mut [u64], queues: [Queue; 4])
-    ensures words_after { words.new ≡ putQueues words.old queues }
+    ensures words_after { words.new ≡ put_queues words.old queues }
     ensures queues_told { QueuesTold queues }
 {
     put_queue_at(words, 3, queue_of(queues, 0));
@@ -37,15 +37,15 @@ fn put_queues(words: &mut [u64], queues: [Queue; 4])
 }
 
 fn put_thread_at(words: &mut [u64], at: usize, thread: Thread)
-    ensures words_after { words.new ≡ putStage words.old at (stageWords thread.stage) }
-    ensures stage_value { stageOf (stageWords thread.stage) ≡ thread.stage }
+    ensures words_after { words.new ≡ put_stage words.old at (stage_words thread.stage) }
+    ensures stage_value { stage_of (stage_words thread.stage) ≡ thread.stage }
 {
     let stage = thread.stage;
     put_stage(words, at, stage_words(stage));
 }
 
 fn put_threads(words: &mut [u64], threads: [Thread; 4])
-    ensures words_after { words.new ≡ putThreads words.old threads }
+    ensures words_after { words.new ≡ put_threads words.old threads }
     ensures threads_told { ThreadsTold threads }
 {
     put_thread_at(words, 27, threads[0]);
@@ -56,8 +56,8 @@ fn put_threads(words: &mut [u64], threads: [Thread; 4])
 
 // Words that are as many as a machine has are its words then, and it is read from them again.
 pub fn store(words: &mut [u64], machine: Machine)
-    ensures words_after { words.new ≡ storedOf words.old machine }
-    ensures told { length words.old ≡ machineSize → Told words.new machine }
+    ensures words_after { words.new ≡ stored_of words.old machine }
+    ensures told { length words.old ≡ machine_size → Told words.new machine }
 {
     if words.len() != MACHINE_WORDS {
         return;

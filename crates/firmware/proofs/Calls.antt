@@ -2,18 +2,18 @@
 use Rattle.std.proofs.Common.{◌≡◌, ℕ, ◌-◌, ◌^◌, List, [], ◌∷◌, ◌++◌, map, replicate, refl}
 use lib.Count.{ones, ones_in}
 use Rattle.base.specs.Below.{all_below}
-use Rattle.index.specs.Index.{wrap, plusOf, differenceOf, length_of, fullB, spansB, cell_of}
-use Rattle.ring.specs.Capacity.{allowedB}
-use Rattle.cells.specs.Cells.{standsB, spot, read_of, written_of}
+use Rattle.index.specs.Index.{wrap, plus_of, difference_of, length_of, full_b, spans_b, cell_of}
+use Rattle.ring.specs.Capacity.{allowed_b}
+use Rattle.cells.specs.Cells.{stands_b, spot, read_of, written_of}
 use Rattle.kinds.specs.Kinds.{kind_of}
-use Rattle.slots.specs.Slots.{indexWord, index_of}
-use Rattle.words.specs.Slices.{machineB}
-use Rattle.machine.specs.Sound.{soundB}
-use Rattle.machine.specs.Setup.{setupOf}
-use Rattle.machine.specs.Step.{gateOf, step_of}
-use Rattle.machine.specs.Begin.{beginOf}
-use Rattle.export.specs.Words.{machineIn, machinePut}
-use Rattle.export.specs.Exported.{setupWords, askedWords, call_words}
+use Rattle.slots.specs.Slots.{index_word, index_of}
+use Rattle.words.specs.Slices.{machine_b}
+use Rattle.machine.specs.Sound.{sound_b}
+use Rattle.machine.specs.Setup.{setup_of}
+use Rattle.machine.specs.Step.{gate_of, step_of}
+use Rattle.machine.specs.Begin.{begin_of}
+use Rattle.export.specs.Words.{machine_in, machine_put}
+use Rattle.export.specs.Exported.{setup_words, asked_words, call_words}
 
 -- queues, places, and the ring number that comes next; of a queue its flavour, front, back, ring number, place and capacity; four queues, four threads.
 -- Queue 0 is FIFO in place 0; queue 1 and thread 0 are given
@@ -141,9 +141,9 @@ rows =
     row (words fresh idle) pool 0 8 0 0 (words fresh idle, pool, 11 ∷ 0 ∷ 0 ∷ 0 ∷ []) ∷
     []
 
-pub all-rows : map called rows ≡ rows
-unfolding askedWords kind_of machineB machineIn machinePut indexWord index_of gateOf step_of beginOf soundB all_below allowedB ones ones_in spansB fullB differenceOf length_of plusOf wrap cell_of standsB spot read_of written_of
-all-rows = refl
+pub all_rows : map called rows ≡ rows
+unfolding asked_words kind_of machine_b machine_in machine_put index_word index_of gate_of step_of begin_of sound_b all_below allowed_b ones ones_in spans_b full_b difference_of length_of plus_of wrap cell_of stands_b spot read_of written_of
+all_rows = refl
 
 -- ---- a setup: words, cells, queues, flavours as bits, places; and what it leaves of the words, and its answer
 
@@ -158,9 +158,9 @@ pub record Setup : Type 0 where
 abbrev setup : List ℕ → List ℕ → ℕ → ℕ → ℕ → List ℕ × List ℕ → Setup
 setup w c k bits n l = record { words = w; cells = c; queues = k; flavors = bits; places = n; leaves = l }
 
-abbrev setUp : Setup → Setup
-setUp s =
-    setup s.words s.cells s.queues s.flavors s.places (setupWords s.words s.cells s.queues s.flavors s.places)
+abbrev set_up : Setup → Setup
+set_up s =
+    setup s.words s.cells s.queues s.flavors s.places (setup_words s.words s.cells s.queues s.flavors s.places)
 
 abbrev zeros : List ℕ
 zeros = replicate 91 0
@@ -176,11 +176,11 @@ setups =
     setup (replicate 90 7) pool 2 2 2 (replicate 90 7, 10 ∷ 3 ∷ 0 ∷ 0 ∷ []) ∷
     []
 
-pub all-setups : map setUp setups ≡ setups
-unfolding setupWords setupOf machinePut indexWord
-all-setups = refl
+pub all_setups : map set_up setups ≡ setups
+unfolding setup_words setup_of machine_put index_word
+all_setups = refl
 
 -- which is never sound
-pub zeros-refused : called (refused 3 zeros [] 0 0 0 0) ≡ refused 3 zeros [] 0 0 0 0
-unfolding askedWords kind_of machineB machineIn machinePut indexWord index_of gateOf step_of soundB all_below
-zeros-refused = refl
+pub zeros_refused : called (refused 3 zeros [] 0 0 0 0) ≡ refused 3 zeros [] 0 0 0 0
+unfolding asked_words kind_of machine_b machine_in machine_put index_word index_of gate_of step_of sound_b all_below
+zeros_refused = refl

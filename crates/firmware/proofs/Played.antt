@@ -3,23 +3,23 @@
 use Rattle.std.proofs.Common.{◌≡◌, ℕ, zero, suc, ◌+◌, ◌-◌, List, [], ◌∷◌, replicate, refl, arith}
 use lib.Count.{ones, ones_in}
 use Rattle.base.specs.Below.{all_below}
-use Rattle.index.specs.Index.{wrap, plusOf, differenceOf, fullB, spansB, cell_of}
-use Rattle.ring.specs.Capacity.{allowedB}
-use Rattle.cells.specs.Cells.{placeCells, standsB, spot, written_of}
+use Rattle.index.specs.Index.{wrap, plus_of, difference_of, full_b, spans_b, cell_of}
+use Rattle.ring.specs.Capacity.{allowed_b}
+use Rattle.cells.specs.Cells.{place_cells, stands_b, spot, written_of}
 use Rattle.kinds.specs.Kinds.{kind_of}
-use Rattle.machine.specs.Sound.{soundB}
-use Rattle.machine.specs.Setup.{setupOf}
-use Rattle.machine.specs.Begin.{beginOf}
-use Rattle.machine.specs.Step.{gateOf, step_of}
-use Rattle.slots.specs.Slots.{indexWord, index_of}
-use Rattle.words.specs.Slices.{machineB}
+use Rattle.machine.specs.Sound.{sound_b}
+use Rattle.machine.specs.Setup.{setup_of}
+use Rattle.machine.specs.Begin.{begin_of}
+use Rattle.machine.specs.Step.{gate_of, step_of}
+use Rattle.slots.specs.Slots.{index_word, index_of}
+use Rattle.words.specs.Slices.{machine_b}
 use Rattle.model.specs.Count.{one, upd}
 use Rattle.theorem.specs.History.{pool, Lends, standing, AtRest}
-use Rattle.theorem.proofs.Runs.{own-pool}
-use Rattle.export.specs.Words.{machineIn, machinePut}
-use Rattle.export.specs.Exported.{setupWords, SetupTold, askedWords}
-use Rattle.firmware.specs.Rows.{Entry, Promised, Row, wordsAt, poolAt, callsIn, acceptedIn, answeredIn}
-use Rattle.firmware.proofs.Rows.{conserved-in-words}
+use Rattle.theorem.proofs.Runs.{own_pool}
+use Rattle.export.specs.Words.{machine_in, machine_put}
+use Rattle.export.specs.Exported.{setup_words, SetupTold, asked_words}
+use Rattle.firmware.specs.Rows.{Entry, Promised, Row, words_at, pool_at, calls_in, accepted_in, answered_in}
+use Rattle.firmware.proofs.Rows.{conserved_in_words}
 
 -- a FIFO queue with ring 0 in place 0, front 0 and this back; thread 0 at a step of an operation that has a number, and at back 0
 abbrev words : ℕ → ℕ → ℕ → ℕ → List ℕ
@@ -28,7 +28,7 @@ words back operation number step =
 
 -- a place with this in its first cell
 abbrev cells : ℕ → List ℕ
-cells v = v ∷ replicate (placeCells - 1) 0
+cells v = v ∷ replicate (place_cells - 1) 0
 
 abbrev working : List ℕ
 working = 0 ∷ 0 ∷ 0 ∷ 0 ∷ []
@@ -52,11 +52,11 @@ makes kind operand w c answer = record {
 abbrev begins : Entry
 begins = makes 1 7 (words 0 1 7 0) (cells 0) working
 
-abbrev loads-back : Entry
-loads-back = makes 0 0 (words 0 1 7 1) (cells 0) working
+abbrev loads_back : Entry
+loads_back = makes 0 0 (words 0 1 7 1) (cells 0) working
 
-abbrev loads-front : Entry
-loads-front = makes 0 0 (words 0 1 7 2) (cells 0) working
+abbrev loads_front : Entry
+loads_front = makes 0 0 (words 0 1 7 2) (cells 0) working
 
 abbrev writes : Entry
 writes = makes 0 0 (words 0 1 7 3) (cells 7) working
@@ -64,53 +64,53 @@ writes = makes 0 0 (words 0 1 7 3) (cells 7) working
 abbrev stores_back : Entry
 stores_back = makes 0 0 (words 1 0 0 0) (cells 7) done
 
-abbrev pub a-push : List Entry
-a-push = begins ∷ loads-back ∷ loads-front ∷ writes ∷ stores_back ∷ []
+abbrev pub a_push : List Entry
+a_push = begins ∷ loads_back ∷ loads_front ∷ writes ∷ stores_back ∷ []
 
-pub set-up : ((words 0 0 0 0, done) ≡ setupWords (replicate 91 0) (cells 0) 1 0 1) × SetupTold (replicate 91 0) (cells 0) 1 0 1 (words 0 0 0 0)
-unfolding setupWords setupOf machineB machineIn machinePut indexWord index_of
-set-up = (refl, λ h. (refl, refl))
+pub set_up : ((words 0 0 0 0, done) ≡ setup_words (replicate 91 0) (cells 0) 1 0 1) × SetupTold (replicate 91 0) (cells 0) 1 0 1 (words 0 0 0 0)
+unfolding setup_words setup_of machine_b machine_in machine_put index_word index_of
+set_up = (refl, λ h. (refl, refl))
 
-begins-so : Promised (words 0 0 0 0) (cells 0) begins (kind_of 1)
-unfolding askedWords kind_of machineB machineIn machinePut gateOf soundB all_below allowedB ones ones_in spansB differenceOf wrap indexWord index_of beginOf
-begins-so = (refl, λ h. (refl, refl))
+begins_so : Promised (words 0 0 0 0) (cells 0) begins (kind_of 1)
+unfolding asked_words kind_of machine_b machine_in machine_put gate_of sound_b all_below allowed_b ones ones_in spans_b difference_of wrap index_word index_of begin_of
+begins_so = (refl, λ h. (refl, refl))
 
-loads-back-so : Promised (words 0 1 7 0) (cells 0) loads-back (kind_of 0)
-unfolding askedWords kind_of machineB machineIn machinePut gateOf soundB all_below allowedB ones ones_in spansB differenceOf wrap indexWord index_of step_of
-loads-back-so = (refl, λ h. (refl, refl))
+loads_back_so : Promised (words 0 1 7 0) (cells 0) loads_back (kind_of 0)
+unfolding asked_words kind_of machine_b machine_in machine_put gate_of sound_b all_below allowed_b ones ones_in spans_b difference_of wrap index_word index_of step_of
+loads_back_so = (refl, λ h. (refl, refl))
 
-loads-front-so : Promised (words 0 1 7 1) (cells 0) loads-front (kind_of 0)
-unfolding askedWords kind_of machineB machineIn machinePut gateOf soundB all_below allowedB ones ones_in spansB differenceOf wrap indexWord index_of step_of fullB
-loads-front-so = (refl, λ h. (refl, refl))
+loads_front_so : Promised (words 0 1 7 1) (cells 0) loads_front (kind_of 0)
+unfolding asked_words kind_of machine_b machine_in machine_put gate_of sound_b all_below allowed_b ones ones_in spans_b difference_of wrap index_word index_of step_of full_b
+loads_front_so = (refl, λ h. (refl, refl))
 
-writes-so : Promised (words 0 1 7 2) (cells 0) writes (kind_of 0)
-unfolding askedWords kind_of machineB machineIn machinePut gateOf soundB all_below allowedB ones ones_in spansB differenceOf wrap indexWord index_of step_of standsB spot written_of cell_of
-writes-so = (refl, λ h. (refl, refl))
+writes_so : Promised (words 0 1 7 2) (cells 0) writes (kind_of 0)
+unfolding asked_words kind_of machine_b machine_in machine_put gate_of sound_b all_below allowed_b ones ones_in spans_b difference_of wrap index_word index_of step_of stands_b spot written_of cell_of
+writes_so = (refl, λ h. (refl, refl))
 
-stores-back-so : Promised (words 0 1 7 3) (cells 7) stores_back (kind_of 0)
-unfolding askedWords kind_of machineB machineIn machinePut gateOf soundB all_below allowedB ones ones_in spansB differenceOf wrap indexWord index_of step_of plusOf
-stores-back-so = (refl, λ h. (refl, refl))
+stores_back_so : Promised (words 0 1 7 3) (cells 7) stores_back (kind_of 0)
+unfolding asked_words kind_of machine_b machine_in machine_put gate_of sound_b all_below allowed_b ones ones_in spans_b difference_of wrap index_word index_of step_of plus_of
+stores_back_so = (refl, λ h. (refl, refl))
 
-pub a-push-is-a-row : Row (words 0 0 0 0) (cells 0) a-push
+pub a_push_is_a_row : Row (words 0 0 0 0) (cells 0) a_push
 unfolding Row
-a-push-is-a-row = (begins-so, (loads-back-so, (loads-front-so, (writes-so, (stores-back-so, tt)))))
+a_push_is_a_row = (begins_so, (loads_back_so, (loads_front_so, (writes_so, (stores_back_so, tt)))))
 
-lends : Lends 1 (callsIn a-push)
-unfolding Lends callsIn kind_of
-lends = (λ l e h. own-pool l e, (λ l e h. own-pool l e, (λ l e h. own-pool l e, (λ l e h. own-pool l e, (λ l e h. own-pool l e, tt)))))
+lends : Lends 1 (calls_in a_push)
+unfolding Lends calls_in kind_of
+lends = (λ l e h. own_pool l e, (λ l e h. own_pool l e, (λ l e h. own_pool l e, (λ l e h. own_pool l e, (λ l e h. own_pool l e, tt)))))
 
 -- no operation is in flight
-at_rest : AtRest (machineIn (words 1 0 0 0))
-unfolding machineIn index_of
+at_rest : AtRest (machine_in (words 1 0 0 0))
+unfolding machine_in index_of
 at_rest zero h = refl
 at_rest (suc t) h = absurd (omega arith)
 
 -- so the theorem speaks of it
-pub holds-of-it : acceptedIn (λ t. 0) a-push 7 ≡ answeredIn a-push 7 + standing (machineIn (words 1 0 0 0)) (cells 7) 7
-unfolding wordsAt poolAt
-holds-of-it =
-    (conserved-in-words (replicate 91 0) (cells 0) 1 0 1 refl (words 0 0 0 0) done set-up.0 set-up.1 a-push a-push-is-a-row (omega arith) lends 7).1 at_rest
+pub holds_of_it : accepted_in (λ t. 0) a_push 7 ≡ answered_in a_push 7 + standing (machine_in (words 1 0 0 0)) (cells 7) 7
+unfolding words_at pool_at
+holds_of_it =
+    (conserved_in_words (replicate 91 0) (cells 0) 1 0 1 refl (words 0 0 0 0) done set_up.0 set_up.1 a_push a_push_is_a_row (omega arith) lends 7).1 at_rest
 
-pub accepted-once : (acceptedIn (λ t. 0) a-push 7 ≡ 1) × (answeredIn a-push 7 ≡ 0)
-unfolding acceptedIn answeredIn kind_of one upd
-accepted-once = (refl, refl)
+pub accepted_once : (accepted_in (λ t. 0) a_push 7 ≡ 1) × (answered_in a_push 7 ≡ 0)
+unfolding accepted_in answered_in kind_of one upd
+accepted_once = (refl, refl)

@@ -6,9 +6,9 @@ use Rattle.base.specs.Tests.{pick}
 use Rattle.kinds.specs.declared.Kind.TheVariants.{Step, Push, Pop, OwnLength, Length, Steal, Batch, BatchAndPop}
 use Rattle.kinds.specs.declared.KindRead.{KindRead}
 use Rattle.kinds.specs.declared.KindRead.TheVariants.{Kind, Wrong}
-use Rattle.kinds.specs.Kinds.{kind_of, requestOf}
+use Rattle.kinds.specs.Kinds.{kind_of, request_of}
 use Rattle.model.specs.Count.{one, upd}
-use Rattle.theorem.specs.History.{Lent, Call, asks, lent, poolAfter}
+use Rattle.theorem.specs.History.{Lent, Call, asks, lent, pool_after}
 use Rattle.export.specs.Exported.{call_words, CallTold}
 
 -- ---- rows
@@ -32,62 +32,62 @@ Promised w pool e r =
 
 unfoldable pub Row : List ℕ → List ℕ → List Entry → Type 0
 Row w pool [] = Unit
-Row w pool (e ∷ es) = Promised w pool e (kind_of e.kind) × Row e.words (poolAfter e.lends pool e.cells) es
+Row w pool (e ∷ es) = Promised w pool e (kind_of e.kind) × Row e.words (pool_after e.lends pool e.cells) es
 
 -- the words and the pool at a row's end
-unfoldable pub wordsAt : List ℕ → List Entry → List ℕ
-wordsAt w [] = w
-wordsAt w (e ∷ es) = wordsAt e.words es
+unfoldable pub words_at : List ℕ → List Entry → List ℕ
+words_at w [] = w
+words_at w (e ∷ es) = words_at e.words es
 
-unfoldable pub poolAt : List ℕ → List Entry → List ℕ
-poolAt pool [] = pool
-poolAt pool (e ∷ es) = poolAt (poolAfter e.lends pool e.cells) es
+unfoldable pub pool_at : List ℕ → List Entry → List ℕ
+pool_at pool [] = pool
+pool_at pool (e ∷ es) = pool_at (pool_after e.lends pool e.cells) es
 
 -- ---- the session's calls: kinds that are no call's ask for nothing
 
 abbrev pub asked : Entry → KindRead → List Call → List Call
-asked e (Kind k) cs = asks e.lends e.thread (requestOf e.thread k e.source e.operand) ∷ cs
+asked e (Kind k) cs = asks e.lends e.thread (request_of e.thread k e.source e.operand) ∷ cs
 asked e Wrong cs = cs
 
-unfoldable pub callsIn : List Entry → List Call
-callsIn [] = []
-callsIn (e ∷ es) = asked e (kind_of e.kind) (callsIn es)
+unfoldable pub calls_in : List Entry → List Call
+calls_in [] = []
+calls_in (e ∷ es) = asked e (kind_of e.kind) (calls_in es)
 
 -- ---- counts, of job number j
 
 -- an answer's words are its kind, a number, a value and a length; 0 is Working, 1 Done, 2 a pop's job, 5 a thief's
-abbrev pub answerKind : List ℕ → ℕ
-answerKind a = slice_index a 0
+abbrev pub answer_kind : List ℕ → ℕ
+answer_kind a = slice_index a 0
 
-abbrev pub answerValue : List ℕ → ℕ
-answerValue a = slice_index a 2
+abbrev pub answer_value : List ℕ → ℕ
+answer_value a = slice_index a 2
 
 -- x is what the thread last began to push
-abbrev pub acceptedAs : ℕ → List ℕ → ℕ → ℕ
-acceptedAs x a j = pick (answerKind a == 1) (one x j) 0
+abbrev pub accepted_as : ℕ → List ℕ → ℕ → ℕ
+accepted_as x a j = pick (answer_kind a == 1) (one x j) 0
 
-abbrev pub answeredAs : List ℕ → ℕ → ℕ
-answeredAs a j = pick (answerKind a == 2 || answerKind a == 5) (one (answerValue a) j) 0
+abbrev pub answered_as : List ℕ → ℕ → ℕ
+answered_as a j = pick (answer_kind a == 2 || answer_kind a == 5) (one (answer_value a) j) 0
 
 -- what each thread last began to push, after a call of thread t that was not refused
-abbrev pub wishedAs : KindRead → (ℕ → ℕ) → ℕ → ℕ → ℕ → ℕ
-wishedAs (Kind Step) jobs t n = jobs
-wishedAs (Kind Push) jobs t n = upd jobs t n
-wishedAs (Kind Pop) jobs t n = jobs
-wishedAs (Kind OwnLength) jobs t n = jobs
-wishedAs (Kind Length) jobs t n = jobs
-wishedAs (Kind Steal) jobs t n = jobs
-wishedAs (Kind Batch) jobs t n = jobs
-wishedAs (Kind BatchAndPop) jobs t n = jobs
-wishedAs Wrong jobs t n = jobs
+abbrev pub wished_as : KindRead → (ℕ → ℕ) → ℕ → ℕ → ℕ → ℕ
+wished_as (Kind Step) jobs t n = jobs
+wished_as (Kind Push) jobs t n = upd jobs t n
+wished_as (Kind Pop) jobs t n = jobs
+wished_as (Kind OwnLength) jobs t n = jobs
+wished_as (Kind Length) jobs t n = jobs
+wished_as (Kind Steal) jobs t n = jobs
+wished_as (Kind Batch) jobs t n = jobs
+wished_as (Kind BatchAndPop) jobs t n = jobs
+wished_as Wrong jobs t n = jobs
 
-abbrev pub jobsIn : (ℕ → ℕ) → Entry → KindRead → ℕ → ℕ
-jobsIn jobs e r = pick (answerKind e.answer == 0) (wishedAs r jobs e.thread e.operand) jobs
+abbrev pub jobs_in : (ℕ → ℕ) → Entry → KindRead → ℕ → ℕ
+jobs_in jobs e r = pick (answer_kind e.answer == 0) (wished_as r jobs e.thread e.operand) jobs
 
-unfoldable pub acceptedIn : (ℕ → ℕ) → List Entry → ℕ → ℕ
-acceptedIn jobs [] j = 0
-acceptedIn jobs (e ∷ es) j = acceptedAs (jobs e.thread) e.answer j + acceptedIn (jobsIn jobs e (kind_of e.kind)) es j
+unfoldable pub accepted_in : (ℕ → ℕ) → List Entry → ℕ → ℕ
+accepted_in jobs [] j = 0
+accepted_in jobs (e ∷ es) j = accepted_as (jobs e.thread) e.answer j + accepted_in (jobs_in jobs e (kind_of e.kind)) es j
 
-unfoldable pub answeredIn : List Entry → ℕ → ℕ
-answeredIn [] j = 0
-answeredIn (e ∷ es) j = answeredAs e.answer j + answeredIn es j
+unfoldable pub answered_in : List Entry → ℕ → ℕ
+answered_in [] j = 0
+answered_in (e ∷ es) j = answered_as e.answer j + answered_in es j

@@ -1,23 +1,23 @@
 -- Playing: operations run alone, one after the other, each with its answer and its number of steps; and what the queues hold.
 use Rattle.std.specs.Prelude.{ℕ, zero, suc, ◌+◌, ◌*◌, Bool, true, false, List, [], ◌∷◌, length, replicate}
 use Rattle.index.specs.declared.Index.{Index}
-use Rattle.index.specs.Index.{length_of, plusOf}
-use Rattle.cells.specs.Cells.{placeCells, read_of}
-use Rattle.std.specs.declared.queue.Flavor.{Flavor}
-use Rattle.std.specs.declared.queue.Queue.{Queue}
-use Rattle.std.specs.declared.answer.Answer.{Answer}
-use Rattle.std.specs.declared.answer.Answer.TheVariants.{Working, Done, Job, Nothing, Stolen, Moved, Length, GaveUp, Refused}
+use Rattle.index.specs.Index.{length_of, plus_of}
+use Rattle.cells.specs.Cells.{place_cells, read_of}
+use Rattle.parts.specs.declared.queue.Flavor.{Flavor}
+use Rattle.parts.specs.declared.queue.Queue.{Queue}
+use Rattle.parts.specs.declared.answer.Answer.{Answer}
+use Rattle.parts.specs.declared.answer.Answer.TheVariants.{Working, Done, Job, Nothing, Stolen, Moved, Length, GaveUp, Refused}
 use Rattle.gate.specs.declared.Operation.{Operation}
-use Rattle.machine.specs.State.{After, queueAt}
-use Rattle.machine.specs.Setup.{setupOf}
+use Rattle.machine.specs.State.{After, queue_at}
+use Rattle.machine.specs.Setup.{setup_of}
 use Rattle.machine.specs.Step.{step_of}
-use Rattle.machine.specs.Begin.{beginOf}
+use Rattle.machine.specs.Begin.{begin_of}
 
 abbrev pub answer_of : After → Answer
 answer_of a = a.called.answer
 
 abbrev pub begin : ℕ → Operation → After → After
-begin t o a = beginOf a.called.machine a.cells t o
+begin t o a = begin_of a.called.machine a.cells t o
 
 abbrev pub step : ℕ → After → After
 step t a = step_of a.called.machine a.cells t
@@ -28,7 +28,7 @@ steps t (suc n) a = steps t n (step t a)
 
 -- a setup of these flavours with n places, over a cleared pool
 abbrev pub setup : List Flavor → ℕ → After
-setup flavors n = setupOf (length flavors) flavors n (replicate (n * placeCells) 0)
+setup flavors n = setup_of (length flavors) flavors n (replicate (n * place_cells) 0)
 
 -- ---- an operation run alone
 
@@ -64,11 +64,11 @@ finish (suc fuel) t false n a = record { steps = n; left = a }
 finish (suc fuel) t true n a = let b : After = step t a in finish fuel t (working (answer_of b)) (n + 1) b
 
 -- more than any game's operation takes
-abbrev pub fuelFor : ℕ
-fuelFor = 200
+abbrev pub fuel_for : ℕ
+fuel_for = 200
 
 abbrev pub alone : ℕ → Operation → After → Alone
-alone t o a = let b : After = begin t o a in finish fuelFor t (working (answer_of b)) 0 b
+alone t o a = let b : After = begin t o a in finish fuel_for t (working (answer_of b)) 0 b
 
 -- n operations alone, one after the other, made from numbers that count up from i
 unfoldable pub repeated : ℕ → ℕ → (ℕ → Operation) → ℕ → After → After
@@ -84,24 +84,24 @@ pub record Sized : Type 0 where
 abbrev pub sized : Answer → ℕ → ℕ → Sized
 sized a n c = record { answer = a; steps = n; capacity = c }
 
-abbrev pub sizedBy : ℕ → Operation → After → Sized
-sizedBy t o a =
-    let r : Alone = alone t o a in sized (answer_of r.left) r.steps (queueAt r.left.called.machine 0).ring.capacity
+abbrev pub sized_by : ℕ → Operation → After → Sized
+sized_by t o a =
+    let r : Alone = alone t o a in sized (answer_of r.left) r.steps (queue_at r.left.called.machine 0).ring.capacity
 
 -- ---- contents, front to back
 
-unfoldable pub cellsFrom : ℕ → List ℕ → Queue → Index → List ℕ
-cellsFrom zero cells q i = []
-cellsFrom (suc n) cells q i = read_of cells q.ring i ∷ cellsFrom n cells q (plusOf i 1)
+unfoldable pub cells_from : ℕ → List ℕ → Queue → Index → List ℕ
+cells_from zero cells q i = []
+cells_from (suc n) cells q i = read_of cells q.ring i ∷ cells_from n cells q (plus_of i 1)
 
-abbrev pub contentsOf : After → ℕ → List ℕ
-contentsOf a k =
-    let q : Queue = queueAt a.called.machine k in
-    cellsFrom (length_of q.back q.front) a.cells q q.front
+abbrev pub contents_of : After → ℕ → List ℕ
+contents_of a k =
+    let q : Queue = queue_at a.called.machine k in
+    cells_from (length_of q.back q.front) a.cells q q.front
 
-unfoldable pub contentsUpTo : ℕ → ℕ → After → List (List ℕ)
-contentsUpTo zero k a = []
-contentsUpTo (suc n) k a = contentsOf a k ∷ contentsUpTo n (k + 1) a
+unfoldable pub contents_up_to : ℕ → ℕ → After → List (List ℕ)
+contents_up_to zero k a = []
+contents_up_to (suc n) k a = contents_of a k ∷ contents_up_to n (k + 1) a
 
 -- ---- a game: a setup, operations run alone, and what the queues then hold
 
@@ -125,8 +125,8 @@ playing (d ∷ ds) a =
 abbrev pub played : Game → Game
 played g =
     let p : Played = playing g.operations (setup g.flavors (2 * length g.flavors)) in
-    record { flavors = g.flavors; operations = p.did; contents = contentsUpTo (length g.flavors) 0 p.left }
+    record { flavors = g.flavors; operations = p.did; contents = contents_up_to (length g.flavors) 0 p.left }
 
-unfoldable pub allPlayed : List Game → List Game
-allPlayed [] = []
-allPlayed (g ∷ gs) = played g ∷ allPlayed gs
+unfoldable pub all_played : List Game → List Game
+all_played [] = []
+all_played (g ∷ gs) = played g ∷ all_played gs

@@ -2,21 +2,21 @@
 -- -1, length 0; its fourth stores 1 and answers nothing.
 use Rattle.std.specs.Prelude.{◌≡◌, [], ◌∷◌, ℤ, pos, negsuc, refl}
 use Rattle.std.specs.Int.Count.{ones, ones_in}
-use Rattle.base.specs.Below.{all_below, anyBelow, firstNot}
-use Rattle.index.specs.Index.{wrap, plusOf, differenceOf, length_of, behindB, emptyB, fullB, spansB, sameB, cell_of}
-use Rattle.ring.specs.Capacity.{allowedB}
-use Rattle.cells.specs.Cells.{standsB, spot, read_of, written_of}
+use Rattle.base.specs.Below.{all_below, any_below, first_not}
+use Rattle.index.specs.Index.{wrap, plus_of, difference_of, length_of, behind_b, empty_b, full_b, spans_b, same_b, cell_of}
+use Rattle.ring.specs.Capacity.{allowed_b}
+use Rattle.cells.specs.Cells.{stands_b, spot, read_of, written_of}
 use Rattle.steal.specs.declared.Steal.TheVariants.{Success}
-use Rattle.std.specs.declared.queue.Flavor.TheVariants.{Fifo}
-use Rattle.std.specs.declared.answer.Answer.{Answer}
-use Rattle.std.specs.declared.answer.Answer.TheVariants as A
+use Rattle.parts.specs.declared.queue.Flavor.TheVariants.{Fifo}
+use Rattle.parts.specs.declared.answer.Answer.{Answer}
+use Rattle.parts.specs.declared.answer.Answer.TheVariants as A
 use Rattle.gate.specs.declared.Operation.TheVariants.{Push, Pop, Length, Steal}
-use Rattle.machine.specs.State.{After, queueAt}
-use Rattle.machine.specs.Sound.{soundB}
-use Rattle.machine.specs.Claim.{freeRing}
-use Rattle.machine.specs.Setup.{setupOf}
-use Rattle.machine.specs.Step.{gateOf, step_of}
-use Rattle.machine.specs.Begin.{beginOf}
+use Rattle.machine.specs.State.{After, queue_at}
+use Rattle.machine.specs.Sound.{sound_b}
+use Rattle.machine.specs.Claim.{free_ring}
+use Rattle.machine.specs.Setup.{setup_of}
+use Rattle.machine.specs.Step.{gate_of, step_of}
+use Rattle.machine.specs.Begin.{begin_of}
 use Rattle.games.specs.Play.{setup, begin, steps, alone, answer_of, finish}
 
 pub record Seen : Type 0 where
@@ -28,7 +28,7 @@ abbrev pub seen : Answer → ℤ → ℤ → Seen
 seen a f b = record { answer = a; front = f; back = b }
 
 abbrev pub look : After → Seen
-look a = seen (answer_of a) (queueAt a.called.machine 0).front.0 (queueAt a.called.machine 0).back.0
+look a = seen (answer_of a) (queue_at a.called.machine 0).front.0 (queue_at a.called.machine 0).back.0
 
 -- the owner's two steps; the thief's steal; the owner's third and fourth step
 abbrev two : After
@@ -48,5 +48,5 @@ pub c13 :
     seen (A.Length (negsuc 0) 0) (pos 2) (pos 1) ∷
     seen A.Nothing (pos 1) (pos 1) ∷
     []
-unfolding steps finish all_below anyBelow firstNot wrap plusOf differenceOf length_of behindB emptyB fullB spansB sameB cell_of allowedB standsB spot read_of written_of soundB freeRing setupOf gateOf step_of beginOf ones ones_in
+unfolding steps finish all_below any_below first_not wrap plus_of difference_of length_of behind_b empty_b full_b spans_b same_b cell_of allowed_b stands_b spot read_of written_of sound_b free_ring setup_of gate_of step_of begin_of ones ones_in
 c13 = refl

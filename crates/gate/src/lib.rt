@@ -1,8 +1,8 @@
 // What a call asks for, and the tests that turn it away.
 ghost use Rattle.std.specs.Prelude.{◌≡◌};
-ghost use Rattle.gate.specs.Gate.{ownQueue};
+ghost use Rattle.gate.specs.Gate.{own_queue};
 
-use core::answer::Refusal;
+use parts::answer::Refusal;
 
 pub mod tests;
 
@@ -33,7 +33,7 @@ pub enum Gate {
 
 // Thread t owns queue t.
 pub fn own_queue(thread: usize) -> usize
-    ensures { result ≡ ownQueue thread }
+    ensures { result ≡ own_queue thread }
 {
     thread
 }

@@ -1,16 +1,16 @@
 // The tests, in 01's order: setup 2, 1; begin 3, 1, 4 (thread, then source), 5, 7; step 3, 1, 4, 6.
 ghost use Rattle.std.specs.Prelude.{◌≡◌, ◌*◌, ◌==◌};
-ghost use Rattle.cells.specs.Cells.{placeCells};
-ghost use Rattle.gate.specs.Gate.{setupTests, callTests, namesB, limitB, beginTests, stepTests, thenGate};
+ghost use Rattle.cells.specs.Cells.{place_cells};
+ghost use Rattle.gate.specs.Gate.{setup_tests, call_tests, names_b, limit_b, begin_tests, step_tests, then_gate};
 
 use crate::{Gate, Operation};
 use cells::PLACE_CELLS;
-use core::answer::Refusal;
+use parts::answer::Refusal;
 use sound::counts_in_range;
 
 // So many places have so many cells.
 pub fn is_pool(places: usize, length: usize) -> bool
-    ensures { result ≡ (length == places * placeCells) }
+    ensures { result ≡ (length == places * place_cells) }
 {
     if length % PLACE_CELLS != 0 {
         return false;
@@ -19,7 +19,7 @@ pub fn is_pool(places: usize, length: usize) -> bool
 }
 
 pub fn setup_tests(queues: usize, places: usize, length: usize) -> Gate
-    ensures { result ≡ setupTests queues places length }
+    ensures { result ≡ setup_tests queues places length }
 {
     if !counts_in_range(queues, places) {
         return Gate::Shut(Refusal::Counts);
@@ -32,7 +32,7 @@ pub fn setup_tests(queues: usize, places: usize, length: usize) -> Gate
 
 // What begin and step share: 3, 1, and 4 for the thread.
 pub fn call_tests(sound: bool, places: usize, length: usize, queues: usize, thread: usize) -> Gate
-    ensures { result ≡ callTests sound places length queues thread }
+    ensures { result ≡ call_tests sound places length queues thread }
 {
     if !sound {
         return Gate::Shut(Refusal::Unsound);
@@ -48,7 +48,7 @@ pub fn call_tests(sound: bool, places: usize, length: usize, queues: usize, thre
 
 // The queue that the operation names exists.
 fn names(queues: usize, operation: Operation) -> bool
-    ensures { result ≡ namesB queues operation }
+    ensures { result ≡ names_b queues operation }
 {
     match operation {
         Operation::Push(_) => true,
@@ -62,7 +62,7 @@ fn names(queues: usize, operation: Operation) -> bool
 
 // The limit, if there is one, is not 0.
 fn has_limit(operation: Operation) -> bool
-    ensures { result ≡ limitB operation }
+    ensures { result ≡ limit_b operation }
 {
     match operation {
         Operation::Push(_) => true,
@@ -76,7 +76,7 @@ fn has_limit(operation: Operation) -> bool
 
 // Of a begin then: 4 for the source, 5, 7.
 pub fn begin_tests(queues: usize, idle: bool, operation: Operation) -> Gate
-    ensures { result ≡ beginTests queues idle operation }
+    ensures { result ≡ begin_tests queues idle operation }
 {
     if !names(queues, operation) {
         return Gate::Shut(Refusal::NoSuch);
@@ -92,7 +92,7 @@ pub fn begin_tests(queues: usize, idle: bool, operation: Operation) -> Gate
 
 // Of a step then: 6.
 pub fn step_tests(idle: bool) -> Gate
-    ensures { result ≡ stepTests idle }
+    ensures { result ≡ step_tests idle }
 {
     if idle {
         return Gate::Shut(Refusal::Idle);
@@ -102,7 +102,7 @@ pub fn step_tests(idle: bool) -> Gate
 
 // The second tests, where the first found nothing.
 pub fn then_gate(first: Gate, second: Gate) -> Gate
-    ensures { result ≡ thenGate first second }
+    ensures { result ≡ then_gate first second }
 {
     match first {
         Gate::Open => second,

@@ -1,7 +1,7 @@
 // The functions that firmware links: the exported ones under names of their own.
 ghost use Rattle.std.specs.Prelude.{◌≡◌};
 ghost use Rattle.kinds.specs.Kinds.{kind_of};
-ghost use Rattle.export.specs.Exported.{setupWords, SetupTold, call_words, CallTold, shownWords};
+ghost use Rattle.export.specs.Exported.{setup_words, SetupTold, call_words, CallTold, shown_words};
 
 use export::exported::{call, setup, shown};
 
@@ -14,7 +14,7 @@ pub extern "C" fn hub_queues_setup(
     places: usize,
     answer: &mut [u64; 4],
 )
-    ensures answer_after { (machine.new, answer.new) ≡ setupWords machine.old pool.now queues flavors places }
+    ensures answer_after { (machine.new, answer.new) ≡ setup_words machine.old pool.now queues flavors places }
     ensures setup_told { SetupTold machine.old pool.now queues flavors places machine.new }
 {
     setup(machine, pool, queues, flavors, places, answer);
@@ -38,7 +38,7 @@ pub extern "C" fn hub_queues_call(
 
 #[unsafe(no_mangle)]
 pub extern "C" fn hub_queues_shown(machine: &[u64], cells: usize, queue: usize, part: &mut [u64; 2])
-    ensures { part.new ≡ shownWords machine.now cells queue }
+    ensures { part.new ≡ shown_words machine.now cells queue }
 {
     shown(machine, cells, queue, part);
 }

@@ -3,7 +3,7 @@ ghost use Rattle.std.specs.Prelude.{◌≡◌, ◌^◌};
 ghost use Rattle.std.specs.Int.Signed.{mag as magZ};
 ghost use Rattle.std.specs.Int.{w64};
 ghost use Rattle.std.proofs.Common.{to_z};
-ghost use Rattle.index.specs.Index.{modZ, plusOf, minusOf, differenceOf, length_of, behindB, emptyB, fullB, spansB, sameB, cell_of};
+ghost use Rattle.index.specs.Index.{mod_z, plus_of, minus_of, difference_of, length_of, behind_b, empty_b, full_b, spans_b, same_b, cell_of};
 
 #[derive(Drop)]
 pub struct Index(pub i64);
@@ -17,7 +17,7 @@ pub fn mag(a: i64) -> u64
 
 // The two's complement bits of a number.
 pub fn bits(a: i64) -> u64
-    ensures { result ≡ modZ a (2 ^ 64) }
+    ensures { result ≡ mod_z a (2 ^ 64) }
 {
     if a >= 0 { mag(a) } else { u64::MAX - mag(a) }
 }
@@ -36,21 +36,21 @@ pub fn signed(u: u64) -> i64
 impl Index {
     // The index n further on.
     pub fn plus(self, n: u64) -> Index
-        ensures { result ≡ plusOf self n }
+        ensures { result ≡ plus_of self n }
     {
         Index(signed(std::num::wrapping_add_u64(bits(self.0), n)))
     }
 
     // The index n before.
     pub fn minus(self, n: u64) -> Index
-        ensures { result ≡ minusOf self n }
+        ensures { result ≡ minus_of self n }
     {
         Index(signed(std::num::wrapping_sub_u64(bits(self.0), n)))
     }
 
     // This index as back, minus front. Below zero is an answer.
     pub fn difference(self, front: Index) -> i64
-        ensures { result ≡ differenceOf self front }
+        ensures { result ≡ difference_of self front }
     {
         signed(std::num::wrapping_sub_u64(bits(self.0), bits(front.0)))
     }
@@ -65,21 +65,21 @@ impl Index {
 
     // The difference is below 0.
     pub fn is_behind(self, front: Index) -> bool
-        ensures { result ≡ behindB self front }
+        ensures { result ≡ behind_b self front }
     {
         self.difference(front) < 0
     }
 
     // The difference is 0 or below.
     pub fn is_empty(self, front: Index) -> bool
-        ensures { result ≡ emptyB self front }
+        ensures { result ≡ empty_b self front }
     {
         self.difference(front) <= 0
     }
 
     // The difference is the capacity or above.
     pub fn is_full(self, front: Index, capacity: usize) -> bool
-        ensures { result ≡ fullB self front capacity }
+        ensures { result ≡ full_b self front capacity }
     {
         let d = self.difference(front);
         if d >= 0 {
@@ -90,7 +90,7 @@ impl Index {
 
     // The difference is from -1 to the capacity.
     pub fn spans(self, front: Index, capacity: usize) -> bool
-        ensures { result ≡ spansB self front capacity }
+        ensures { result ≡ spans_b self front capacity }
     {
         let d = self.difference(front);
         if d >= 0 {
@@ -100,7 +100,7 @@ impl Index {
     }
 
     pub fn is_same(self, other: Index) -> bool
-        ensures { result ≡ sameB self other }
+        ensures { result ≡ same_b self other }
     {
         self.0 == other.0
     }

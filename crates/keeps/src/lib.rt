@@ -1,8 +1,8 @@
 // The ring that a stage keeps alive beside the queues' current ones; there is never more than one.
 ghost use Rattle.std.specs.Prelude.{◌≡◌};
-ghost use Rattle.keeps.specs.Kept.{resizeKeeps, pushKeeps, popKeeps, stealKeeps, sourceKeeps, reserveKeeps, ownKeeps, keptOf};
+ghost use Rattle.keeps.specs.Kept.{resize_keeps, push_keeps, pop_keeps, steal_keeps, source_keeps, reserve_keeps, own_keeps, kept_of};
 
-use core::stage::{
+use parts::stage::{
     Haul, OwnStage, PopStage, PushStage, ReserveStage, ResizeStage, SourceStage, Stage, StealStage,
 };
 use ring::Ring;
@@ -16,7 +16,7 @@ pub enum Kept {
 }
 
 fn resize_keeps(at: ResizeStage) -> Kept
-    ensures { result ≡ resizeKeeps at }
+    ensures { result ≡ resize_keeps at }
 {
     match at {
         ResizeStage::LoadBack { capacity: _ } => Kept::Nothing,
@@ -27,7 +27,7 @@ fn resize_keeps(at: ResizeStage) -> Kept
 }
 
 fn push_keeps(at: PushStage) -> Kept
-    ensures { result ≡ pushKeeps at }
+    ensures { result ≡ push_keeps at }
 {
     match at {
         PushStage::LoadBack => Kept::Nothing,
@@ -39,7 +39,7 @@ fn push_keeps(at: PushStage) -> Kept
 }
 
 fn pop_keeps(at: PopStage) -> Kept
-    ensures { result ≡ popKeeps at }
+    ensures { result ≡ pop_keeps at }
 {
     match at {
         PopStage::Fifo(_) => Kept::Nothing,
@@ -49,7 +49,7 @@ fn pop_keeps(at: PopStage) -> Kept
 }
 
 fn steal_keeps(at: StealStage) -> Kept
-    ensures { result ≡ stealKeeps at }
+    ensures { result ≡ steal_keeps at }
 {
     match at {
         StealStage::LoadFront => Kept::Nothing,
@@ -69,7 +69,7 @@ fn held(haul: Haul) -> Kept
 }
 
 fn source_keeps(at: SourceStage) -> Kept
-    ensures { result ≡ sourceKeeps at }
+    ensures { result ≡ source_keeps at }
 {
     match at {
         SourceStage::LoadFront { kind: _, others: _ } => Kept::Nothing,
@@ -84,7 +84,7 @@ fn source_keeps(at: SourceStage) -> Kept
 }
 
 fn reserve_keeps(at: ReserveStage) -> Kept
-    ensures { result ≡ reserveKeeps at }
+    ensures { result ≡ reserve_keeps at }
 {
     match at {
         ReserveStage::LoadBack => Kept::Nothing,
@@ -94,7 +94,7 @@ fn reserve_keeps(at: ReserveStage) -> Kept
 }
 
 fn own_keeps(at: OwnStage) -> Kept
-    ensures { result ≡ ownKeeps at }
+    ensures { result ≡ own_keeps at }
 {
     match at {
         OwnStage::Reserve(_, stage) => reserve_keeps(stage),
@@ -104,7 +104,7 @@ fn own_keeps(at: OwnStage) -> Kept
 }
 
 pub fn ring_kept(stage: Stage) -> Kept
-    ensures { result ≡ keptOf stage }
+    ensures { result ≡ kept_of stage }
 {
     match stage {
         Stage::Push(_, at) => push_keeps(at),

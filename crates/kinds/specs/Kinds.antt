@@ -1,7 +1,7 @@
 -- The kinds of calls, by their numbers, and what a call of a kind asks for.
 use Rattle.std.specs.Prelude.{ℕ, Bool, true, false, eqb}
 use Rattle.base.specs.Tests.{pick}
-use Rattle.gate.specs.Gate.{ownQueue}
+use Rattle.gate.specs.Gate.{own_queue}
 use Rattle.gate.specs.declared.Operation.TheVariants as O
 use Rattle.gate.specs.declared.Request.{Request}
 use Rattle.gate.specs.declared.Request.TheVariants as R
@@ -21,33 +21,33 @@ kind_of n =
     (pick (eqb n 5) (K.Kind Steal) (pick (eqb n 6) (K.Kind Batch) (pick (eqb n 7) (K.Kind BatchAndPop) K.Wrong)))))))
 
 -- the kind names a source queue; has an operand
-abbrev pub sourceB : Kind → Bool
-sourceB Step = false
-sourceB Push = false
-sourceB Pop = false
-sourceB OwnLength = false
-sourceB Length = true
-sourceB Steal = true
-sourceB Batch = true
-sourceB BatchAndPop = true
+abbrev pub source_b : Kind → Bool
+source_b Step = false
+source_b Push = false
+source_b Pop = false
+source_b OwnLength = false
+source_b Length = true
+source_b Steal = true
+source_b Batch = true
+source_b BatchAndPop = true
 
-abbrev pub operandB : Kind → Bool
-operandB Step = false
-operandB Push = true
-operandB Pop = false
-operandB OwnLength = false
-operandB Length = false
-operandB Steal = false
-operandB Batch = true
-operandB BatchAndPop = true
+abbrev pub operand_b : Kind → Bool
+operand_b Step = false
+operand_b Push = true
+operand_b Pop = false
+operand_b OwnLength = false
+operand_b Length = false
+operand_b Steal = false
+operand_b Batch = true
+operand_b BatchAndPop = true
 
 -- thread t asks for this, with this source and operand
-abbrev pub requestOf : ℕ → Kind → ℕ → ℕ → Request
-requestOf t Step src n = R.Step
-requestOf t Push src n = R.Begin (O.Push n)
-requestOf t Pop src n = R.Begin O.Pop
-requestOf t OwnLength src n = R.Begin (O.Length (ownQueue t))
-requestOf t Length src n = R.Begin (O.Length src)
-requestOf t Steal src n = R.Begin (O.Steal src)
-requestOf t Batch src n = R.Begin (O.Batch src n)
-requestOf t BatchAndPop src n = R.Begin (O.BatchAndPop src n)
+abbrev pub request_of : ℕ → Kind → ℕ → ℕ → Request
+request_of t Step src n = R.Step
+request_of t Push src n = R.Begin (O.Push n)
+request_of t Pop src n = R.Begin O.Pop
+request_of t OwnLength src n = R.Begin (O.Length (own_queue t))
+request_of t Length src n = R.Begin (O.Length src)
+request_of t Steal src n = R.Begin (O.Steal src)
+request_of t Batch src n = R.Begin (O.Batch src n)
+request_of t BatchAndPop src n = R.Begin (O.BatchAndPop src n)

@@ -1,6 +1,6 @@
 // The kinds of calls, by their numbers, and what a call of a kind asks for.
 ghost use Rattle.std.specs.Prelude.{◌≡◌};
-ghost use Rattle.kinds.specs.Kinds.{kind_of, sourceB, operandB, requestOf};
+ghost use Rattle.kinds.specs.Kinds.{kind_of, source_b, operand_b, request_of};
 
 use gate::{Operation, Request, own_queue};
 
@@ -55,7 +55,7 @@ pub fn kind_of(number: u64) -> KindRead
 
 // The kind names a source queue.
 pub fn has_source(kind: Kind) -> bool
-    ensures { result ≡ sourceB kind }
+    ensures { result ≡ source_b kind }
 {
     match kind {
         Kind::Length | Kind::Steal | Kind::Batch | Kind::BatchAndPop => true,
@@ -65,7 +65,7 @@ pub fn has_source(kind: Kind) -> bool
 
 // The kind has an operand: a job or a limit.
 pub fn has_operand(kind: Kind) -> bool
-    ensures { result ≡ operandB kind }
+    ensures { result ≡ operand_b kind }
 {
     match kind {
         Kind::Push | Kind::Batch | Kind::BatchAndPop => true,
@@ -74,7 +74,7 @@ pub fn has_operand(kind: Kind) -> bool
 }
 
 pub fn request_of(thread: usize, kind: Kind, source: usize, operand: u64) -> Request
-    ensures { result ≡ requestOf thread kind source operand }
+    ensures { result ≡ request_of thread kind source operand }
 {
     match kind {
         Kind::Step => Request::Step,

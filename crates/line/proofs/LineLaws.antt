@@ -1,52 +1,52 @@
--- No line is longer than `longestLine`: a number has at most 20 digits, and a signed one its sign besides.
+-- No line is longer than `longest_line`: a number has at most 20 digits, and a signed one its sign besides.
 use Rattle.std.proofs.Common.{ℕ, ◌≤◌, ltb, List, [], length, arith, length-append}
-use Rattle.base.specs.Tests.{by-test}
-use Rattle.writing.proofs.WritingLaws.{decimal-short, signed-short}
+use Rattle.base.specs.Tests.{by_test}
+use Rattle.writing.proofs.WritingLaws.{decimal_short, signed_short}
 use Rattle.steal.specs.declared.Steal.{Steal}
 use Rattle.steal.specs.declared.Steal.TheVariants.{Empty, Success, Retry}
 use Rattle.ring.specs.declared.Ring.{Ring}
-use Rattle.std.specs.declared.queue.Queue.{Queue}
-use Rattle.std.specs.declared.answer.Answer.{Answer}
-use Rattle.std.specs.declared.answer.Answer.TheVariants.{Working, Done, Job, Nothing, Stolen, Moved, Length, GaveUp, Refused}
-use Rattle.std.specs.Answers.{refusalOf, shortageOf}
-use Rattle.std.specs.Queues.{queueIn}
-use Rattle.line.specs.Line.{stolenText, answerText, queueText, queueTextIf, callText, setupText, badText, longestLine}
+use Rattle.parts.specs.declared.queue.Queue.{Queue}
+use Rattle.parts.specs.declared.answer.Answer.{Answer}
+use Rattle.parts.specs.declared.answer.Answer.TheVariants.{Working, Done, Job, Nothing, Stolen, Moved, Length, GaveUp, Refused}
+use Rattle.parts.specs.Answers.{refusal_of, shortage_of}
+use Rattle.parts.specs.Queues.{queue_in}
+use Rattle.line.specs.Line.{stolen_text, answer_text, queue_text, queue_text_if, call_text, setup_text, bad_text, longest_line}
 
-stolen-short : (s : Steal) → length (stolenText s) ≤ 25
-stolen-short Empty = omega arith
-stolen-short (Success job) = omega (arith, decimal-short job)
-stolen-short Retry = omega arith
+stolen_short : (s : Steal) → length (stolen_text s) ≤ 25
+stolen_short Empty = omega arith
+stolen_short (Success job) = omega (arith, decimal_short job)
+stolen_short Retry = omega arith
 
-answer-short : (a : Answer) → length (answerText a) ≤ 49
-answer-short Working = omega arith
-answer-short Done = omega arith
-answer-short (Job job) = omega (arith, decimal-short job)
-answer-short Nothing = omega arith
-answer-short (Stolen s) = omega (arith, stolen-short s)
-answer-short Moved = omega arith
-answer-short (Length d n) = simp length-append (omega (arith, signed-short d, decimal-short n))
-answer-short (GaveUp s) = omega (arith, decimal-short (shortageOf s))
-answer-short (Refused r) = omega (arith, decimal-short (refusalOf r))
+answer_short : (a : Answer) → length (answer_text a) ≤ 49
+answer_short Working = omega arith
+answer_short Done = omega arith
+answer_short (Job job) = omega (arith, decimal_short job)
+answer_short Nothing = omega arith
+answer_short (Stolen s) = omega (arith, stolen_short s)
+answer_short Moved = omega arith
+answer_short (Length d n) = simp length-append (omega (arith, signed_short d, decimal_short n))
+answer_short (GaveUp s) = omega (arith, decimal_short (shortage_of s))
+answer_short (Refused r) = omega (arith, decimal_short (refusal_of r))
 
-queue-short : (q : Queue) → length (queueText q) ≤ 107
-queue-short q =
+queue_short : (q : Queue) → length (queue_text q) ≤ 107
+queue_short q =
     let r : Ring = q.ring in
     simp length-append
     (omega
-    (arith, signed-short q.front.0, signed-short q.back.0, decimal-short r.number.0, decimal-short r.place.0, decimal-short r.capacity))
+    (arith, signed_short q.front.0, signed_short q.back.0, decimal_short r.number.0, decimal_short r.place.0, decimal_short r.capacity))
 
-queue-if-short : (n : ℕ) (queues : List Queue) (k : ℕ) → length (queueTextIf n queues k) ≤ 107
-queue-if-short n queues k =
-    by-test (λ (text : List ℕ). length text ≤ 107) (ltb k n) (queueText (queueIn queues k)) [] (λ t. queue-short (queueIn queues k)) (λ t. omega arith)
+queue_if_short : (n : ℕ) (queues : List Queue) (k : ℕ) → length (queue_text_if n queues k) ≤ 107
+queue_if_short n queues k =
+    by_test (λ (text : List ℕ). length text ≤ 107) (ltb k n) (queue_text (queue_in queues k)) [] (λ t. queue_short (queue_in queues k)) (λ t. omega arith)
 
-pub call-short : (n : ℕ) (queues : List Queue) (a : Answer) → length (callText n queues a) ≤ longestLine
-call-short n queues a =
+pub call_short : (n : ℕ) (queues : List Queue) (a : Answer) → length (call_text n queues a) ≤ longest_line
+call_short n queues a =
     simp length-append
     (omega
-    (arith, answer-short a, queue-if-short n queues 0, queue-if-short n queues 1, queue-if-short n queues 2, queue-if-short n queues 3))
+    (arith, answer_short a, queue_if_short n queues 0, queue_if_short n queues 1, queue_if_short n queues 2, queue_if_short n queues 3))
 
-pub setup-short : (a : Answer) → length (setupText a) ≤ longestLine
-setup-short a = simp length-append (omega (arith, answer-short a))
+pub setup_short : (a : Answer) → length (setup_text a) ≤ longest_line
+setup_short a = simp length-append (omega (arith, answer_short a))
 
-pub bad-short : (place : ℕ) → length (badText place) ≤ longestLine
-bad-short place = simp length-append (omega (arith, decimal-short place))
+pub bad_short : (place : ℕ) → length (bad_text place) ≤ longest_line
+bad_short place = simp length-append (omega (arith, decimal_short place))

@@ -1,11 +1,11 @@
 // The lines that a session prints: a call's answer and, after a tab for each queue, front, back, ring, place and capacity.
 ghost use Rattle.std.specs.Prelude.{◌≡◌, ◌++◌};
-ghost use Rattle.std.specs.declared.answer.Answer.TheVariants.{Length};
+ghost use Rattle.parts.specs.declared.answer.Answer.TheVariants.{Length};
 ghost use Rattle.writing.specs.Writing.{page as page_of, put, signed, decimal};
-ghost use Rattle.line.specs.Line.{stolenText, answerText, ringText, queueText, queueTextIf, callText, setupText, badText};
+ghost use Rattle.line.specs.Line.{stolen_text, answer_text, ring_text, queue_text, queue_text_if, call_text, setup_text, bad_text};
 
-use core::answer::Answer;
-use core::queue::{Queue, queue_of};
+use parts::answer::Answer;
+use parts::queue::{Queue, queue_of};
 use index::Index;
 use ring::Ring;
 use steal::Steal;
@@ -22,7 +22,7 @@ fn put_told(page: &mut [u8], at: usize, text: &[u8], n: u64) -> usize
 }
 
 fn put_stolen(page: &mut [u8], at: usize, stolen: Steal) -> usize
-    ensures { page_of page.new result ≡ put page.old at (stolenText stolen) }
+    ensures { page_of page.new result ≡ put page.old at (stolen_text stolen) }
 {
     match stolen {
         Steal::Empty => put_text(page, at, b"empty"),
@@ -32,7 +32,7 @@ fn put_stolen(page: &mut [u8], at: usize, stolen: Steal) -> usize
 }
 
 fn put_length(page: &mut [u8], at: usize, difference: i64, length: u64) -> usize
-    ensures { page_of page.new result ≡ put page.old at (answerText (Length difference length)) }
+    ensures { page_of page.new result ≡ put page.old at (answer_text (Length difference length)) }
 {
     let next = put_text(page, at, b"length ");
     let then = put_signed(page, next, difference);
@@ -40,7 +40,7 @@ fn put_length(page: &mut [u8], at: usize, difference: i64, length: u64) -> usize
 }
 
 fn put_answer(page: &mut [u8], at: usize, answer: Answer) -> usize
-    ensures { page_of page.new result ≡ put page.old at (answerText answer) }
+    ensures { page_of page.new result ≡ put page.old at (answer_text answer) }
 {
     match answer {
         Answer::Working => put_text(page, at, b"working"),
@@ -50,7 +50,7 @@ fn put_answer(page: &mut [u8], at: usize, answer: Answer) -> usize
         Answer::Stolen(stolen) => put_stolen(page, at, stolen),
         Answer::Moved => put_text(page, at, b"moved"),
         Answer::Length { difference, length } => put_length(page, at, difference, length),
-        Answer::GaveUp(shortage) => put_told(page, at, b"gave-up ", shortage.number()),
+        Answer::GaveUp(shortage) => put_told(page, at, b"gave_up ", shortage.number()),
         Answer::Refused(refusal) => put_told(page, at, b"refused ", refusal.number()),
     }
 }
@@ -62,7 +62,7 @@ fn put_index(page: &mut [u8], at: usize, index: Index) -> usize
 }
 
 fn put_ring(page: &mut [u8], at: usize, ring: Ring) -> usize
-    ensures { page_of page.new result ≡ put page.old at (ringText ring) }
+    ensures { page_of page.new result ≡ put page.old at (ring_text ring) }
 {
     let a = put_told(page, at, b" ", ring.number.0);
     let b = put_told(page, a, b" ", ring.place.0 as u64);
@@ -70,7 +70,7 @@ fn put_ring(page: &mut [u8], at: usize, ring: Ring) -> usize
 }
 
 fn put_queue(page: &mut [u8], at: usize, q: Queue) -> usize
-    ensures { page_of page.new result ≡ put page.old at (queueText q) }
+    ensures { page_of page.new result ≡ put page.old at (queue_text q) }
 {
     let a = put_text(page, at, b"\t");
     let b = put_index(page, a, q.front);
@@ -81,7 +81,7 @@ fn put_queue(page: &mut [u8], at: usize, q: Queue) -> usize
 
 // Queue k of so many.
 fn put_queue_if(page: &mut [u8], at: usize, count: usize, queues: [Queue; 4], k: usize) -> usize
-    ensures { page_of page.new result ≡ put page.old at (queueTextIf count queues k) }
+    ensures { page_of page.new result ≡ put page.old at (queue_text_if count queues k) }
 {
     if k < count {
         return put_queue(page, at, queue_of(queues, k));
@@ -97,7 +97,7 @@ pub fn put_call(
     queues: [Queue; 4],
     answer: Answer,
 ) -> usize
-    ensures { page_of page.new result ≡ put page.old at (callText count queues answer) }
+    ensures { page_of page.new result ≡ put page.old at (call_text count queues answer) }
 {
     let a = put_answer(page, at, answer);
     let b = put_queue_if(page, a, count, queues, 0);
@@ -109,7 +109,7 @@ pub fn put_call(
 
 // A refused setup's line.
 pub fn put_setup(page: &mut [u8], at: usize, answer: Answer) -> usize
-    ensures { page_of page.new result ≡ put page.old at (setupText answer) }
+    ensures { page_of page.new result ≡ put page.old at (setup_text answer) }
 {
     let a = put_text(page, at, b"setup ");
     let b = put_answer(page, a, answer);
@@ -118,7 +118,7 @@ pub fn put_setup(page: &mut [u8], at: usize, answer: Answer) -> usize
 
 // The line for what is no session.
 pub fn put_bad(page: &mut [u8], at: usize, place: u64) -> usize
-    ensures { page_of page.new result ≡ put page.old at (badText place) }
+    ensures { page_of page.new result ≡ put page.old at (bad_text place) }
 {
     let a = put_told(page, at, b"bad input at byte ", place);
     put_text(page, a, b"\n")

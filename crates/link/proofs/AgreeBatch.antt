@@ -1,47 +1,47 @@
 -- The tables agree: what both halves of a batch share.
 use Rattle.std.proofs.Common.{◌≡◌, ℕ, ◌+◌, ◌/◌, ◌^◌, ◌<◌, eqb, leb, refl, ap, ◌∙◌, arith}
-use Rattle.index.specs.Index.{plusOf}
-use Rattle.index.proofs.Laws.{plus-is}
+use Rattle.index.specs.Index.{plus_of}
+use Rattle.index.proofs.Laws.{plus_is}
 use Rattle.ring.specs.declared.Ring.{Ring}
-use Rattle.std.specs.declared.stage.SourceStage.TheVariants.{Take}
-use Rattle.std.specs.declared.stage.OwnStage.TheVariants.{Put}
-use Rattle.std.specs.declared.stage.Stage.TheVariants.{BatchSource, BatchOwn}
+use Rattle.parts.specs.declared.stage.SourceStage.TheVariants.{Take}
+use Rattle.parts.specs.declared.stage.OwnStage.TheVariants.{Put}
+use Rattle.parts.specs.declared.stage.Stage.TheVariants.{BatchSource, BatchOwn}
 use Rattle.op_batch.specs.Haul as H
-use Rattle.advance.specs.Advance.{ofBatch}
+use Rattle.advance.specs.Advance.{of_batch}
 use Rattle.model.specs.Stage.{Flavour, fifo, lifo, Queue, InHand, none, some, Haul}
-use Rattle.model.specs.Tables.{copying, withCount, inHand, copyNext, swapNext, landing, stopped, turning}
-use Rattle.link.specs.Map.{ix, flavorOf, handFor, haulFor, stageFor, queueFor, outFor}
+use Rattle.model.specs.Tables.{copying, with_count, in_hand, copy_next, swap_next, landing, stopped, turning}
+use Rattle.link.specs.Map.{ix, flavor_of, hand_for, haul_for, stage_for, queue_for, out_for}
 use Rattle.link.proofs.AgreeResize.{either}
 
-abbrev withHand : Haul → InHand → Haul
-withHand h a = record { ring = h.ring; f = h.f; n = h.n; b = h.b; hand = a }
+abbrev with_hand : Haul → InHand → Haul
+with_hand h a = record { ring = h.ring; f = h.f; n = h.n; b = h.b; hand = a }
 
 module _ (R : ℕ → ℕ → Ring) (k : ℕ) (new : Ring) where
-  pub copy-agree : (h : Haul) (i : ℕ) → BatchSource k (Take (haulFor (R k) h) (H.copying (H.turn_of h.n i))) ≡ stageFor R new (copyNext k h i)
-  copy-agree h i = either (leb h.n i) (λ t. rw t) (λ t. rw t)
+  pub copy_agree : (h : Haul) (i : ℕ) → BatchSource k (Take (haul_for (R k) h) (H.copying (H.turn_of h.n i))) ≡ stage_for R new (copy_next k h i)
+  copy_agree h i = either (leb h.n i) (λ t. rw t) (λ t. rw t)
 
-  pub swap-agree : (h : Haul) (x : ℕ) → BatchOwn k (Put (haulFor (R k) h) (H.swapping (H.turn_of (h.n / 2) x))) ≡ stageFor R new (swapNext k h x)
-  swap-agree h x = either (leb (h.n / 2) x) (λ t. rw t) (λ t. rw t)
+  pub swap_agree : (h : Haul) (x : ℕ) → BatchOwn k (Put (haul_for (R k) h) (H.swapping (H.turn_of (h.n / 2) x))) ≡ stage_for R new (swap_next k h x)
+  swap_agree h x = either (leb (h.n / 2) x) (λ t. rw t) (λ t. rw t)
 
-  landing-agree : (fo : Flavour) (h : Haul) → BatchOwn k (Put (haulFor (R k) h) (H.landing (flavorOf fo) h.n)) ≡ stageFor R new (landing fo k h)
-  landing-agree fifo h = swap-agree h 0
-  landing-agree lifo h = refl
+  landing_agree : (fo : Flavour) (h : Haul) → BatchOwn k (Put (haul_for (R k) h) (H.landing (flavor_of fo) h.n)) ≡ stage_for R new (landing fo k h)
+  landing_agree fifo h = swap_agree h 0
+  landing_agree lifo h = refl
 
   -- the queue that the step touched is j, of flavour fl
   module _ (j : ℕ) (fo fl : Flavour) where
-    pub stop-agree : (h : Haul) (i : ℕ) (q : Queue)
-        → ofBatch k (H.stopped (flavorOf fo) (haulFor (R k) h) i (queueFor fl (R j) q)) ≡ outFor fl R j new (stopped fo k h i q)
-    stop-agree h i q = go h.hand
+    pub stop_agree : (h : Haul) (i : ℕ) (q : Queue)
+        → of_batch k (H.stopped (flavor_of fo) (haul_for (R k) h) i (queue_for fl (R j) q)) ≡ out_for fl R j new (stopped fo k h i q)
+    stop_agree h i q = go h.hand
       where
-        go : (a : InHand) → ofBatch k (H.stopped (flavorOf fo) (haulFor (R k) (withHand h a)) i (queueFor fl (R j) q)) ≡ outFor fl R j new (stopped fo k (withHand h a) i q)
-        go none = either (eqb i 0) (λ t. rw t) (λ t. rw (t, landing-agree fo (withCount (withHand h none) i)))
-        go (some v) = rw (landing-agree fo (withCount (withHand h (some v)) i))
+        go : (a : InHand) → of_batch k (H.stopped (flavor_of fo) (haul_for (R k) (with_hand h a)) i (queue_for fl (R j) q)) ≡ out_for fl R j new (stopped fo k (with_hand h a) i q)
+        go none = either (eqb i 0) (λ t. rw t) (λ t. rw (t, landing_agree fo (with_count (with_hand h none) i)))
+        go (some v) = rw (landing_agree fo (with_count (with_hand h (some v)) i))
 
     pub turn_agree : (h : Haul) (i : ℕ) (q : Queue)
-        → ofBatch k (H.turning (flavorOf fo) (haulFor (R k) h) i (queueFor fl (R j) q)) ≡ outFor fl R j new (turning fo k h i q)
-    turn_agree h i q = either (leb h.n i) (λ t. rw (t, stop-agree h i q)) (λ t. rw t)
+        → of_batch k (H.turning (flavor_of fo) (haul_for (R k) h) i (queue_for fl (R j) q)) ≡ out_for fl R j new (turning fo k h i q)
+    turn_agree h i q = either (leb h.n i) (λ t. rw (t, stop_agree h i q)) (λ t. rw t)
 
 -- the first of the n jobs
-pub first-ix : (j : InHand) (f i : ℕ) → f + inHand j + i < 2 ^ 62 + 2 → plusOf (H.first_of (handFor j) (ix f)) i ≡ ix (f + inHand j + i)
-first-ix none f i h = let e : f + 0 + i ≡ f + i = omega arith in plus-is f i (omega arith) ∙ ap ix (omega arith)
-first-ix (some v) f i h = rw (plus-is f 1 (omega arith)) (plus-is (f + 1) i (omega arith))
+pub first_ix : (j : InHand) (f i : ℕ) → f + in_hand j + i < 2 ^ 62 + 2 → plus_of (H.first_of (hand_for j) (ix f)) i ≡ ix (f + in_hand j + i)
+first_ix none f i h = let e : f + 0 + i ≡ f + i = omega arith in plus_is f i (omega arith) ∙ ap ix (omega arith)
+first_ix (some v) f i h = rw (plus_is f 1 (omega arith)) (plus_is (f + 1) i (omega arith))

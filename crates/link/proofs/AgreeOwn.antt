@@ -1,113 +1,113 @@
 -- The tables agree: the steps of a batch on the own queue. k is the source, t the own queue.
 use Rattle.std.proofs.Common.{◌≡◌, ℕ, suc, ◌+◌, ◌-◌, ◌<◌, ◌≤◌, true, false, leb, List, refl, ap, ◌∙◌, ⊎_elim, mod-eq_of_lt, add-one, arith, le-leb}
 use borrow.Author.Tests.{lt-leb}
-use Rattle.base.specs.Tests.{le-or-lt}
-use Rattle.index.specs.Index.{plusOf}
-use Rattle.index.proofs.Laws.{plus-is, minus_is, length-is}
+use Rattle.base.specs.Tests.{le_or_lt}
+use Rattle.index.specs.Index.{plus_of}
+use Rattle.index.proofs.Laws.{plus_is, minus_is, length_is}
 use Rattle.ring.specs.declared.Ring.{Ring}
 use Rattle.ring.specs.Capacity.{largest}
-use Rattle.ring.proofs.CapacityLaws.{holding-least, holding-over}
-use Rattle.std.specs.declared.out.Claim.{Claim as CodeClaim}
-use Rattle.op_resize.specs.Resize.{resizing, resizeOf}
+use Rattle.ring.proofs.CapacityLaws.{holding_least, holding_over}
+use Rattle.parts.specs.declared.out.Claim.{Claim as CodeClaim}
+use Rattle.op_resize.specs.Resize.{resizing, resize_of}
 use Rattle.op_batch.specs.Haul as H
-use Rattle.advance.specs.Advance.{ofBatch}
-use Rattle.model.specs.Stage.{Flavour, fifo, lifo, Queue, cap, setCell, ResizeStage, own, Wanted, InHand, none, some, Haul, OwnStage, reserve-back}
-use Rattle.model.specs.Stage.{reserve-front, reserve-resize, own_back, all-write, one-write, swap-near, swap-far, swap-put, swap-last, own-store}
-use Rattle.model.specs.Stage.{noRing, Out, going, ended}
-use Rattle.model.specs.Tables.{Claim, Resized, more, failed, finished, resizeStep, resized, slot, turning, ownStep}
+use Rattle.advance.specs.Advance.{of_batch}
+use Rattle.model.specs.Stage.{Flavour, fifo, lifo, Queue, cap, set_cell, ResizeStage, own, Wanted, InHand, none, some, Haul, OwnStage, reserve_back}
+use Rattle.model.specs.Stage.{reserve_front, reserve_resize, own_back, all_write, one_write, swap_near, swap_far, swap_put, swap_last, own_store}
+use Rattle.model.specs.Stage.{no_ring, Out, going, ended}
+use Rattle.model.specs.Tables.{Claim, Resized, more, failed, finished, resize_step, resized, slot, turning, own_step}
 use Rattle.model.specs.Machine.{stored}
 use Rattle.model.specs.Invariant.{HaulOk, Ok}
-use Rattle.model.specs.Memory.{noteResize}
-use Rattle.link.specs.Map.{ix, flavorOf, haulFor, resizeAt, queueFor, outFor, noted, offerFor}
-use Rattle.link.proofs.AgreeResize.{either, Fits, Agrees, resizedFor, ResizeNames, resize-agree}
-use Rattle.link.proofs.AgreeBatch.{copy-agree, swap-agree, turn_agree}
+use Rattle.model.specs.Memory.{note_resize}
+use Rattle.link.specs.Map.{ix, flavor_of, haul_for, resize_at, queue_for, out_for, noted, offer_for}
+use Rattle.link.proofs.AgreeResize.{either, Fits, Agrees, resized_for, ResizeNames, resize_agree}
+use Rattle.link.proofs.AgreeBatch.{copy_agree, swap_agree, turn_agree}
 
 abbrev pub OwnNames : (ℕ → Ring) → Ring → Claim → CodeClaim → OwnStage → Queue → Type 0
-OwnNames R new gm gc (reserve-back w) q = Unit
-OwnNames R new gm gc (reserve-front w b) q = Unit
-OwnNames R new gm gc (reserve-resize w z) q = ResizeNames R new gm gc z q
+OwnNames R new gm gc (reserve_back w) q = Unit
+OwnNames R new gm gc (reserve_front w b) q = Unit
+OwnNames R new gm gc (reserve_resize w z) q = ResizeNames R new gm gc z q
 OwnNames R new gm gc (own_back w) q = Unit
-OwnNames R new gm gc (all-write h i v) q = Unit
-OwnNames R new gm gc (one-write h i v) q = Unit
-OwnNames R new gm gc (swap-near h x) q = Unit
-OwnNames R new gm gc (swap-far h x near) q = Unit
-OwnNames R new gm gc (swap-put h x near far) q = Unit
-OwnNames R new gm gc (swap-last h x near) q = Unit
-OwnNames R new gm gc (own-store h) q = Unit
+OwnNames R new gm gc (all_write h i v) q = Unit
+OwnNames R new gm gc (one_write h i v) q = Unit
+OwnNames R new gm gc (swap_near h x) q = Unit
+OwnNames R new gm gc (swap_far h x near) q = Unit
+OwnNames R new gm gc (swap_put h x near far) q = Unit
+OwnNames R new gm gc (swap_last h x near) q = Unit
+OwnNames R new gm gc (own_store h) q = Unit
 
 module _ (fl : Flavour) (R : ℕ → ℕ → Ring) (k t : ℕ) (new : Ring) (q : Queue) (cells : List ℕ) (w : Fits (R t) q cells) (gm : Claim) (gc : CodeClaim)
   where
     abbrev Same : OwnStage → Out → Type 0
     Same p o = Agrees fl fl R t new gm gc cells (own k p) q o
 
-    after-resize : (a : Wanted) (z : ResizeStage) (r : Resized) (l : List ℕ)
-        → resizeOf (resizeAt new z) (queueFor fl (R t) q) gc cells ≡ resizing (resizedFor fl (R t) new r) l
-        → l ≡ noted (noteResize gm z) (R t q.ring) new cells
-        → Same (reserve-resize a z) (resized r (λ y. going q (own k (reserve-resize a y))) (ended q noRing) (λ r. going r (own k (own_back a))))
-    after-resize a z (more y) l e f = rw (e, f)
-    after-resize a z failed l e f = rw (e, f)
-    after-resize a z (finished r) l e f = rw (e, f)
+    after_resize : (a : Wanted) (z : ResizeStage) (r : Resized) (l : List ℕ)
+        → resize_of (resize_at new z) (queue_for fl (R t) q) gc cells ≡ resizing (resized_for fl (R t) new r) l
+        → l ≡ noted (note_resize gm z) (R t q.ring) new cells
+        → Same (reserve_resize a z) (resized r (λ y. going q (own k (reserve_resize a y))) (ended q no_ring) (λ r. going r (own k (own_back a))))
+    after_resize a z (more y) l e f = rw (e, f)
+    after_resize a z failed l e f = rw (e, f)
+    after_resize a z (finished r) l e f = rw (e, f)
 
     -- an own index that the batch works on
-    own-ix : (h : Haul) (i : ℕ) → HaulOk h q → i ≤ h.n → plusOf (ix h.b) i ≡ ix (h.b + i)
-    own-ix h i r l = let f = w.front in let c = w.room in plus-is h.b i (omega arith)
+    own_ix : (h : Haul) (i : ℕ) → HaulOk h q → i ≤ h.n → plus_of (ix h.b) i ≡ ix (h.b + i)
+    own_ix h i r l = let f = w.front in let c = w.room in plus_is h.b i (omega arith)
 
-    mirror-ix : (h : Haul) (i : ℕ) → HaulOk h q → i < h.n → H.mirrorOf (haulFor (R k) h) i ≡ ix (h.b + (h.n - suc i))
-    mirror-ix h i r l =
+    mirror_ix : (h : Haul) (i : ℕ) → HaulOk h q → i < h.n → H.mirror_of (haul_for (R k) h) i ≡ ix (h.b + (h.n - suc i))
+    mirror_ix h i r l =
         let f = w.front in
         let c = w.room in
-        rw (plus-is h.b h.n (omega arith), minus_is (h.b + h.n) 1 (omega arith) (omega arith), minus_is (h.b + h.n - 1) i (omega arith) (omega arith))
+        rw (plus_is h.b h.n (omega arith), minus_is (h.b + h.n) 1 (omega arith) (omega arith), minus_is (h.b + h.n - 1) i (omega arith) (omega arith))
         (ap ix (omega arith))
 
     -- a count of jobs that were written does not wrap
-    count-is : (h : Haul) (i : ℕ) → HaulOk h q → i < h.n → H.writtenAfter i ≡ suc i
-    count-is h i r l = let f = w.front in let c = w.room in mod-eq_of_lt (omega arith) ∙ add-one i
+    count_is : (h : Haul) (i : ℕ) → HaulOk h q → i < h.n → H.written_after i ≡ suc i
+    count_is h i r l = let f = w.front in let c = w.room in mod-eq_of_lt (omega arith) ∙ add-one i
 
-    slot-ix : (fo : Flavour) (h : Haul) (i : ℕ) → HaulOk h q → i < h.n → H.slot_of (flavorOf fo) (haulFor (R k) h) i ≡ ix (slot fo h i)
-    slot-ix fifo h i r l = own-ix h i r (omega arith)
-    slot-ix lifo h i r l = mirror-ix h i r l
+    slot_ix : (fo : Flavour) (h : Haul) (i : ℕ) → HaulOk h q → i < h.n → H.slot_of (flavor_of fo) (haul_for (R k) h) i ≡ ix (slot fo h i)
+    slot_ix fifo h i r l = own_ix h i r (omega arith)
+    slot_ix lifo h i r l = mirror_ix h i r l
 
     -- the own queue t is touched, and the haul is from k
-    turn-own : (h : Haul) (i : ℕ) (r : Queue)
-        → ofBatch k (H.turning (flavorOf fl) (haulFor (R k) h) i (queueFor fl (R t) r)) ≡ outFor fl R t new (turning fl k h i r)
-    turn-own h i r = turn_agree R k new t fl fl h i r
+    turn_own : (h : Haul) (i : ℕ) (r : Queue)
+        → of_batch k (H.turning (flavor_of fl) (haul_for (R k) h) i (queue_for fl (R t) r)) ≡ out_for fl R t new (turning fl k h i r)
+    turn_own h i r = turn_agree R k new t fl fl h i r
 
-    pub own-agree : (p : OwnStage) → Ok fl (own k p) q → OwnNames (R t) new gm gc p q → Same p (ownStep (offerFor gm (own k p) q) fl k p q)
-    unfolding ownStep
-    own-agree (reserve-back a) o h = refl
-    own-agree (reserve-front a b) o h =
+    pub own_agree : (p : OwnStage) → Ok fl (own k p) q → OwnNames (R t) new gm gc p q → Same p (own_step (offer_for gm (own k p) q) fl k p q)
+    unfolding own_step
+    own_agree (reserve_back a) o h = refl
+    own_agree (reserve_front a b) o h =
         let sf = w.front in
         let sb = w.back in
         let e = o.stage in
         let c : ℕ = (R t q.ring).capacity in
         let ca : c ≡ cap q = w.capacity in
-        let m = length-is b q.front (omega arith) (omega arith) in
+        let m = length_is b q.front (omega arith) (omega arith) in
         let x : ℕ = b - q.front + a.n in
         either (leb x c) (λ u. rw (m, ← ca, u))
         (λ u. ⊎_elim
-        (λ l. (let y = holding-least x l in
+        (λ l. (let y = holding_least x l in
         let z : leb x y.0 ≡ true = le-leb x y.0 y.2.holds in
         rw (m, ← ca, u, y.1, z)))
-        (λ l. (let z : leb x 0 ≡ false = lt-leb x 0 (omega arith) in rw (m, ← ca, u, holding-over x l, z)))
-        (le-or-lt x largest))
-    own-agree (reserve-resize a z) o h =
-        after-resize a z (resizeStep gm z q) (noted (noteResize gm z) (R t q.ring) new cells)
-        (resize-agree fl (R t) new q cells w a.n gm gc z o.stage h) refl
-    own-agree (own_back a) o h = refl
-    own-agree (all-write j i v) o h =
-        rw (slot-ix fl j i o.stage.0 o.stage.1, add-one, copy-agree R k new j (suc i))
-    own-agree (one-write j i v) o h =
+        (λ l. (let z : leb x 0 ≡ false = lt-leb x 0 (omega arith) in rw (m, ← ca, u, holding_over x l, z)))
+        (le_or_lt x largest))
+    own_agree (reserve_resize a z) o h =
+        after_resize a z (resize_step gm z q) (noted (note_resize gm z) (R t q.ring) new cells)
+        (resize_agree fl (R t) new q cells w a.n gm gc z o.stage h) refl
+    own_agree (own_back a) o h = refl
+    own_agree (all_write j i v) o h =
+        rw (slot_ix fl j i o.stage.0 o.stage.1, add-one, copy_agree R k new j (suc i))
+    own_agree (one_write j i v) o h =
         let l = o.stage.1 in
-        rw (own-ix j i o.stage.0 (omega arith), count-is j i o.stage.0 l, turn-own j (suc i) (setCell q (j.b + i) v))
-    own-agree (swap-near j x) o h = let l = o.stage.1 in rw (own-ix j x o.stage.0 (omega arith), w.reads (j.b + x))
-    own-agree (swap-far j x near) o h =
-        let l = o.stage.1 in rw (mirror-ix j x o.stage.0 (omega arith), w.reads (j.b + (j.n - suc x)))
-    own-agree (swap-put j x near far) o h = let l = o.stage.1 in rw (own-ix j x o.stage.0 (omega arith))
-    own-agree (swap-last j x near) o h =
-        let l = o.stage.1 in rw (mirror-ix j x o.stage.0 (omega arith), add-one, swap-agree R k new j (suc x))
-    own-agree (own-store j) o h = stored j.hand refl (own-ix j j.n o.stage (omega arith))
+        rw (own_ix j i o.stage.0 (omega arith), count_is j i o.stage.0 l, turn_own j (suc i) (set_cell q (j.b + i) v))
+    own_agree (swap_near j x) o h = let l = o.stage.1 in rw (own_ix j x o.stage.0 (omega arith), w.reads (j.b + x))
+    own_agree (swap_far j x near) o h =
+        let l = o.stage.1 in rw (mirror_ix j x o.stage.0 (omega arith), w.reads (j.b + (j.n - suc x)))
+    own_agree (swap_put j x near far) o h = let l = o.stage.1 in rw (own_ix j x o.stage.0 (omega arith))
+    own_agree (swap_last j x near) o h =
+        let l = o.stage.1 in rw (mirror_ix j x o.stage.0 (omega arith), add-one, swap_agree R k new j (suc x))
+    own_agree (own_store j) o h = stored j.hand refl (own_ix j j.n o.stage (omega arith))
       where
-        stored : (a : InHand) → j.hand ≡ a → plusOf (ix j.b) j.n ≡ ix (j.b + j.n)
-            → Same (own-store j) (ownStep (offerFor gm (own k (own-store j)) q) fl k (own-store j) q)
+        stored : (a : InHand) → j.hand ≡ a → plus_of (ix j.b) j.n ≡ ix (j.b + j.n)
+            → Same (own_store j) (own_step (offer_for gm (own k (own_store j)) q) fl k (own_store j) q)
         stored none a e = rw (e, a)
         stored (some v) a e = rw (e, a)

@@ -1,19 +1,19 @@
 -- The tables agree: steal, length, and a batch from the own queue.
 use Rattle.std.proofs.Common.{◌≡◌, ℕ, suc, ◌^◌, ◌≤◌, eqb, leb, List, refl, arith}
-use Rattle.index.proofs.Laws.{empty-is, same-is}
+use Rattle.index.proofs.Laws.{empty_is, same_is}
 use Rattle.ring.specs.declared.Ring.{Ring}
 use Rattle.cells.specs.Cells.{read_of}
-use Rattle.std.specs.declared.out.Claim.{Claim as CodeClaim}
-use Rattle.model.specs.Stage.{Flavour, Queue, cell, StealStage, steal-front, steal-back, steal-ring, steal-read, steal-reload, steal-exchange}
-use Rattle.model.specs.Stage.{LengthStage, length_back, length_front, Stage, steal, len, ownBatch, Out}
-use Rattle.model.specs.Tables.{Claim, stealStep, lengthStep, ownBatchStep}
+use Rattle.parts.specs.declared.out.Claim.{Claim as CodeClaim}
+use Rattle.model.specs.Stage.{Flavour, Queue, cell, StealStage, steal_front, steal_back, steal_ring, steal_read, steal_reload, steal_exchange}
+use Rattle.model.specs.Stage.{LengthStage, length_back, length_front, Stage, steal, len, own_batch, Out}
+use Rattle.model.specs.Tables.{Claim, steal_step, length_step, own_batch_step}
 use Rattle.model.specs.Logical.{hi}
 use Rattle.model.specs.Invariant.{view, Span, StealKnows}
-use Rattle.model.specs.Bound.{earlyLength, earlySteal}
+use Rattle.model.specs.Bound.{early_length, early_steal}
 use Rattle.model.specs.Memory.{StealHolds}
-use Rattle.model.proofs.Stable.{span-hi}
+use Rattle.model.proofs.Stable.{span_hi}
 use Rattle.link.specs.Map.{ix}
-use Rattle.link.proofs.AgreeResize.{either, next-ix, Fits, Agrees}
+use Rattle.link.proofs.AgreeResize.{either, next_ix, Fits, Agrees}
 
 -- what is known of a ring of the touched queue that the thread holds: its cells, and its number against the current one's
 pub record HeldRing (R : ℕ → Ring) (q : Queue) (cells : List ℕ) (r : ℕ) : Type 0 where
@@ -28,34 +28,34 @@ module _ (fo fl : Flavour) (R : ℕ → ℕ → Ring) (k : ℕ) (new : Ring) (q 
   Same x o = Agrees fo fl R k new gm gc cells x q o
 
   small : (f : ℕ) → Span fl (view sk q) f 1 → f ≤ 2 ^ 62
-  small f s = let h = span-hi fl (view sk q) f 1 s in let b = w.back in omega arith
+  small f s = let h = span_hi fl (view sk q) f 1 s in let b = w.back in omega arith
 
-  pub steal-agree : (p : StealStage) → StealKnows fl p (view sk q) → earlySteal p ≤ 2 ^ 62 → ((r : ℕ) → StealHolds p r → HeldRing (R k) q cells r)
-      → Same (steal k p) (stealStep k p q)
-  unfolding stealStep
-  steal-agree steal-front s e h = refl
-  steal-agree (steal-back f) s e h =
+  pub steal_agree : (p : StealStage) → StealKnows fl p (view sk q) → early_steal p ≤ 2 ^ 62 → ((r : ℕ) → StealHolds p r → HeldRing (R k) q cells r)
+      → Same (steal k p) (steal_step k p q)
+  unfolding steal_step
+  steal_agree steal_front s e h = refl
+  steal_agree (steal_back f) s e h =
       let b = w.back in
-      let t₁ = empty-is q.back f (omega arith) (omega arith) in
+      let t₁ = empty_is q.back f (omega arith) (omega arith) in
       either (leb q.back f) (λ t. rw (t₁, t)) (λ t. rw (t₁, t))
-  steal-agree (steal-ring f) s e h = refl
-  steal-agree (steal-read r f) s e h = rw ((h r refl).reads f)
-  steal-agree (steal-reload r f v) s e h = let t₁ = (h r refl).tells in either (eqb r q.ring) (λ t. rw (t₁, t)) (λ t. rw (t₁, t))
-  steal-agree (steal-exchange r f v) s e h =
+  steal_agree (steal_ring f) s e h = refl
+  steal_agree (steal_read r f) s e h = rw ((h r refl).reads f)
+  steal_agree (steal_reload r f v) s e h = let t₁ = (h r refl).tells in either (eqb r q.ring) (λ t. rw (t₁, t)) (λ t. rw (t₁, t))
+  steal_agree (steal_exchange r f v) s e h =
       let i = small f s.0 in
-      let n = next-ix f (omega arith) in
-      let t₁ = same-is q.front f in
+      let n = next_ix f (omega arith) in
+      let t₁ = same_is q.front f in
       either (eqb q.front f) (λ t. rw (n, t₁, t)) (λ t. rw (n, t₁, t))
 
-  pub length-agree : (p : LengthStage) → Same (len k p) (lengthStep k p q)
-  unfolding lengthStep
-  length-agree length_back = refl
-  length-agree (length_front b) = refl
+  pub length_agree : (p : LengthStage) → Same (len k p) (length_step k p q)
+  unfolding length_step
+  length_agree length_back = refl
+  length_agree (length_front b) = refl
 
-  pub own-batch-agree : (p : LengthStage) → earlyLength p ≤ 2 ^ 62 → Same (ownBatch p) (ownBatchStep p q)
-  unfolding ownBatchStep
-  own-batch-agree length_back e = refl
-  own-batch-agree (length_front b) e =
+  pub own_batch_agree : (p : LengthStage) → early_length p ≤ 2 ^ 62 → Same (own_batch p) (own_batch_step p q)
+  unfolding own_batch_step
+  own_batch_agree length_back e = refl
+  own_batch_agree (length_front b) e =
       let f = w.front in
-      let t₁ = empty-is b q.front (omega arith) (omega arith) in
+      let t₁ = empty_is b q.front (omega arith) (omega arith) in
       either (leb b q.front) (λ t. rw (t₁, t)) (λ t. rw (t₁, t))

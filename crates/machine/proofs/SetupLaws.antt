@@ -1,8 +1,8 @@
 -- The machine of zeros, which a refused setup gives, is not sound.
 use Rattle.std.proofs.Common.{◌≡◌, false, refl}
-use Rattle.machine.specs.Setup.{zeroMachine}
-use Rattle.machine.specs.Sound.{soundB}
+use Rattle.machine.specs.Setup.{zero_machine}
+use Rattle.machine.specs.Sound.{sound_b}
 
-pub zero-unsound : soundB zeroMachine ≡ false
-unfolding soundB
-zero-unsound = refl
+pub zero_unsound : sound_b zero_machine ≡ false
+unfolding sound_b
+zero_unsound = refl

@@ -7,8 +7,8 @@ module _ {ℓ} {A : Type 0} {B : Type ℓ} (l : List A) (f : A → B) {n k : ℕ
   short : length l ≤ k
   short = let s = length-map l f in omega arith
 
-  pub none-at : (d : A) → get_or l k d ≡ d
-  none-at d = get_or-eq_default l d short
+  pub none_at : (d : A) → get_or l k d ≡ d
+  none_at d = get_or-eq_default l d short
 
-  pub none-set : (a : A) → set l k a ≡ l
-  none-set a = set_out l k a short
+  pub none_set : (a : A) → set l k a ≡ l
+  none_set a = set_out l k a short

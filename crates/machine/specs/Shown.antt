@@ -3,26 +3,26 @@
 use Rattle.std.specs.Prelude.{ℕ, ◌*◌, Bool, ◌&&◌, List, take, drop, ◌==◌, nat_lt}
 use Rattle.base.specs.Tests.{pick}
 use Rattle.ring.specs.declared.Ring.{Ring}
-use Rattle.cells.specs.Cells.{placeCells}
+use Rattle.cells.specs.Cells.{place_cells}
 use Rattle.machine.specs.declared.state.Machine.{Machine}
 use Rattle.machine.specs.declared.shown.Part.{Part}
-use Rattle.machine.specs.State.{queueAt}
-use Rattle.machine.specs.Sound.{soundB}
+use Rattle.machine.specs.State.{queue_at}
+use Rattle.machine.specs.Sound.{sound_b}
 
 abbrev pub part : ℕ → ℕ → Part
 part start count = record { start = start; count = count }
 
 -- the first cells of a ring's place, as many as its capacity
-abbrev pub ringPart : Ring → Part
-ringPart r = part (r.place.0 * placeCells) r.capacity
+abbrev pub ring_part : Ring → Part
+ring_part r = part (r.place.0 * place_cells) r.capacity
 
 -- len is the pool's length
-abbrev pub showsB : Machine → ℕ → ℕ → Bool
-showsB m len q = soundB m && (len == m.place_count * placeCells && nat_lt q m.queue_count)
+abbrev pub shows_b : Machine → ℕ → ℕ → Bool
+shows_b m len q = sound_b m && (len == m.place_count * place_cells && nat_lt q m.queue_count)
 
-unfoldable pub shownPart : Machine → ℕ → ℕ → Part
-shownPart m len q = pick (showsB m len q) (ringPart (queueAt m q).ring) (part 0 0)
+unfoldable pub shown_part : Machine → ℕ → ℕ → Part
+shown_part m len q = pick (shows_b m len q) (ring_part (queue_at m q).ring) (part 0 0)
 
 -- the cells of a part
-abbrev pub shownOf : Part → List ℕ → List ℕ
-shownOf p cells = take p.count (drop p.start cells)
+abbrev pub shown_of : Part → List ℕ → List ℕ
+shown_of p cells = take p.count (drop p.start cells)

@@ -1,19 +1,19 @@
 -- The machine's parts, and the machine with one part changed.
 use Rattle.std.specs.Prelude.{ℕ, List, slice_index_or, slice_set}
 use Rattle.ring.specs.declared.RingNumber.{RingNumber}
-use Rattle.ring.specs.Number.{nextNumber}
-use Rattle.std.specs.declared.queue.Queue.{Queue}
-use Rattle.std.specs.Queues.{queueIn}
-use Rattle.std.specs.declared.stage.Stage.{Stage}
-use Rattle.std.specs.declared.stage.Stage.TheVariants.{Idle}
+use Rattle.ring.specs.Number.{next_number}
+use Rattle.parts.specs.declared.queue.Queue.{Queue}
+use Rattle.parts.specs.Queues.{queue_in}
+use Rattle.parts.specs.declared.stage.Stage.{Stage}
+use Rattle.parts.specs.declared.stage.Stage.TheVariants.{Idle}
 use Rattle.keeps.specs.declared.Kept.{Kept}
-use Rattle.keeps.specs.Kept.{keptOf}
-use Rattle.std.specs.declared.answer.Answer.{Answer}
-use Rattle.std.specs.declared.answer.Answer.TheVariants.{Refused}
-use Rattle.std.specs.declared.answer.Refusal.{Refusal}
-use Rattle.std.specs.Answers.{Told, told}
-use Rattle.std.specs.declared.out.Claim.{Claim}
-use Rattle.std.specs.declared.out.Claim.TheVariants.{Nothing, Got}
+use Rattle.keeps.specs.Kept.{kept_of}
+use Rattle.parts.specs.declared.answer.Answer.{Answer}
+use Rattle.parts.specs.declared.answer.Answer.TheVariants.{Refused}
+use Rattle.parts.specs.declared.answer.Refusal.{Refusal}
+use Rattle.parts.specs.Answers.{Told, told}
+use Rattle.parts.specs.declared.out.Claim.{Claim}
+use Rattle.parts.specs.declared.out.Claim.TheVariants.{Nothing, Got}
 use Rattle.machine.specs.declared.state.Thread.{Thread}
 use Rattle.machine.specs.declared.state.Machine.{Machine}
 use Rattle.machine.specs.declared.state.Called.{Called}
@@ -31,27 +31,27 @@ abbrev pub after : Machine → Answer → List ℕ → After
 after m a cells = leaves (record { machine = m; answer = a }) cells
 
 -- all as it was
-abbrev pub refusedOf : Machine → Refusal → Called
-refusedOf m r = record { machine = m; answer = Refused r }
+abbrev pub refused_of : Machine → Refusal → Called
+refused_of m r = record { machine = m; answer = Refused r }
 
 abbrev pub refused : Machine → Refusal → List ℕ → After
-refused m r cells = leaves (refusedOf m r) cells
+refused m r cells = leaves (refused_of m r) cells
 
-abbrev pub idleThread : Thread
-idleThread = record { stage = Idle }
+abbrev pub idle_thread : Thread
+idle_thread = record { stage = Idle }
 
-abbrev pub queueAt : Machine → ℕ → Queue
-queueAt m k = queueIn m.queues k
+abbrev pub queue_at : Machine → ℕ → Queue
+queue_at m k = queue_in m.queues k
 
-abbrev pub stageAt : Machine → ℕ → Stage
-stageAt m t = (slice_index_or m.threads t idleThread).stage
+abbrev pub stage_at : Machine → ℕ → Stage
+stage_at m t = (slice_index_or m.threads t idle_thread).stage
 
 -- the ring that thread t keeps
 abbrev pub kept_at : Machine → ℕ → Kept
-kept_at m t = keptOf (stageAt m t)
+kept_at m t = kept_of (stage_at m t)
 
-abbrev pub withQueue : Machine → ℕ → Queue → Machine
-withQueue m k q = record {
+abbrev pub with_queue : Machine → ℕ → Queue → Machine
+with_queue m k q = record {
   queues = slice_set m.queues k q;
   threads = m.threads;
   queue_count = m.queue_count;
@@ -59,8 +59,8 @@ withQueue m k q = record {
   next_ring = m.next_ring;
 }
 
-abbrev pub withStage : Machine → ℕ → Stage → Machine
-withStage m t s = record {
+abbrev pub with_stage : Machine → ℕ → Stage → Machine
+with_stage m t s = record {
   queues = m.queues;
   threads = slice_set m.threads t (record { stage = s });
   queue_count = m.queue_count;
@@ -69,9 +69,9 @@ withStage m t s = record {
 }
 
 -- ring numbers count up: the next, after a claim
-abbrev pub numberAfter : RingNumber → Claim → RingNumber
-numberAfter n Nothing = n
-numberAfter n (Got number place) = nextNumber number
+abbrev pub number_after : RingNumber → Claim → RingNumber
+number_after n Nothing = n
+number_after n (Got number place) = next_number number
 
 abbrev pub counted : Machine → Claim → Machine
 counted m g = record {
@@ -79,5 +79,5 @@ counted m g = record {
   threads = m.threads;
   queue_count = m.queue_count;
   place_count = m.place_count;
-  next_ring = numberAfter m.next_ring g;
+  next_ring = number_after m.next_ring g;
 }

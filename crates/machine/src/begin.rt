@@ -1,13 +1,13 @@
 // A thread begins an operation.
 ghost use Rattle.std.specs.Prelude.{◌≡◌, []};
-ghost use Rattle.stages.specs.Stages.{idleB};
-ghost use Rattle.gate.specs.Gate.{beginTests, thenGate};
-ghost use Rattle.machine.specs.State.{leaves, stageAt};
-ghost use Rattle.machine.specs.Step.{gateOf};
-ghost use Rattle.machine.specs.Begin.{begun as begunOf, beginOf};
+ghost use Rattle.stages.specs.Stages.{idle_b};
+ghost use Rattle.gate.specs.Gate.{begin_tests, then_gate};
+ghost use Rattle.machine.specs.State.{leaves, stage_at};
+ghost use Rattle.machine.specs.Step.{gate_of};
+ghost use Rattle.machine.specs.Begin.{begun as begunOf, begin_of};
 
 use crate::state::{Called, Machine};
-use core::answer::Answer;
+use parts::answer::Answer;
 use gate::tests::{begin_tests, then_gate};
 use gate::{Gate, Operation, own_queue};
 use starts::first_stage;
@@ -15,7 +15,7 @@ use starts::first_stage;
 impl Machine {
     // All the tests of a begin, in order.
     fn may_begin(self, length: usize, thread: usize, operation: Operation) -> Gate
-        ensures { result ≡ thenGate (gateOf self length thread) (beginTests self.queue_count (idleB (stageAt self thread)) operation) }
+        ensures { result ≡ then_gate (gate_of self length thread) (begin_tests self.queue_count (idle_b (stage_at self thread)) operation) }
     {
         let idle = self.idle(thread);
         let tests = begin_tests(self.queue_count, idle, operation);
@@ -33,7 +33,7 @@ impl Machine {
     }
 
     pub fn begin(mut self, pool: &[u64], thread: usize, operation: Operation) -> Called
-        ensures { leaves result pool.now ≡ beginOf self pool.now thread operation }
+        ensures { leaves result pool.now ≡ begin_of self pool.now thread operation }
     {
         match self.may_begin(pool.len(), thread, operation) {
             Gate::Open => {

@@ -1,17 +1,17 @@
 // What a claim finds.
 ghost use Rattle.std.specs.Prelude.{◌≡◌};
-ghost use Rattle.machine.specs.Claim.{freeRing, claim_of};
+ghost use Rattle.machine.specs.Claim.{free_ring, claim_of};
 
 use crate::state::Machine;
-use core::out::Claim;
-use core::stage::Stage;
+use parts::out::Claim;
+use parts::stage::Stage;
 use op_resize::found;
 use places::used::free_place;
 use stages::claims;
 
 impl Machine {
     fn free_ring(self) -> Claim
-        ensures { result ≡ freeRing self }
+        ensures { result ≡ free_ring self }
     {
         let kept = self.rings_kept();
         let queues = self.queues;

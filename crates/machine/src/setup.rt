@@ -1,13 +1,13 @@
 // A new machine.
 ghost use Rattle.std.specs.Prelude.{◌≡◌, [], slice_index_or};
-ghost use Rattle.std.specs.declared.queue.Flavor.TheVariants.{Fifo};
+ghost use Rattle.parts.specs.declared.queue.Flavor.TheVariants.{Fifo};
 ghost use Rattle.machine.specs.State.{leaves, after};
-ghost use Rattle.machine.specs.Setup.{idleThreads, freshQueue, freshQueues, freshMachine, setupOf};
+ghost use Rattle.machine.specs.Setup.{idle_threads, fresh_queue, fresh_queues, fresh_machine, setup_of};
 
 use crate::state::{Called, Machine, Thread};
-use core::answer::Answer;
-use core::queue::{Flavor, Queue, zero_queue};
-use core::stage::Stage;
+use parts::answer::Answer;
+use parts::queue::{Flavor, Queue, zero_queue};
+use parts::stage::Stage;
 use gate::Gate;
 use gate::tests::setup_tests;
 use index::Index;
@@ -22,7 +22,7 @@ fn flavor_at(flavors: [Flavor; 4], q: usize) -> Flavor
 
 // Queue q has ring q in place q.
 fn fresh_queue(count: usize, flavors: [Flavor; 4], q: usize) -> Queue
-    ensures { result ≡ freshQueue count flavors q }
+    ensures { result ≡ fresh_queue count flavors q }
 {
     if q < count {
         let flavor = flavor_at(flavors, q);
@@ -42,7 +42,7 @@ fn fresh_queue(count: usize, flavors: [Flavor; 4], q: usize) -> Queue
 }
 
 fn fresh_queues(count: usize, flavors: [Flavor; 4]) -> [Queue; 4]
-    ensures { result ≡ freshQueues count flavors }
+    ensures { result ≡ fresh_queues count flavors }
 {
     let q0 = fresh_queue(count, flavors, 0);
     let q1 = fresh_queue(count, flavors, 1);
@@ -52,14 +52,14 @@ fn fresh_queues(count: usize, flavors: [Flavor; 4]) -> [Queue; 4]
 }
 
 fn idle_threads() -> [Thread; 4]
-    ensures { result ≡ idleThreads }
+    ensures { result ≡ idle_threads }
 {
     let idle = Thread { stage: Stage::Idle };
     [idle; 4]
 }
 
 fn fresh_machine(count: usize, flavors: [Flavor; 4], places: usize) -> Machine
-    ensures { result ≡ freshMachine count flavors places }
+    ensures { result ≡ fresh_machine count flavors places }
 {
     let queues = fresh_queues(count, flavors);
     let threads = idle_threads();
@@ -73,7 +73,7 @@ fn fresh_machine(count: usize, flavors: [Flavor; 4], places: usize) -> Machine
 }
 
 fn fresh(count: usize, flavors: [Flavor; 4], places: usize, answer: Answer) -> Called
-    ensures { result ≡ (after (freshMachine count flavors places) answer []).called }
+    ensures { result ≡ (after (fresh_machine count flavors places) answer []).called }
 {
     let machine = fresh_machine(count, flavors, places);
     Called { machine, answer }
@@ -82,7 +82,7 @@ fn fresh(count: usize, flavors: [Flavor; 4], places: usize, answer: Answer) -> C
 impl Machine {
     // So many queues, of these flavours, and so many places in the lent pool. No cell is written. Refused, it is the machine of zeros.
     pub fn setup(queues: usize, flavors: [Flavor; 4], places: usize, pool: &[u64]) -> Called
-        ensures { leaves result pool.now ≡ setupOf queues flavors places pool.now }
+        ensures { leaves result pool.now ≡ setup_of queues flavors places pool.now }
     {
         match setup_tests(queues, places, pool.len()) {
             Gate::Open => {

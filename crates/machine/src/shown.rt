@@ -1,6 +1,6 @@
 // A queue's ring, shown as the caller's own cells.
 ghost use Rattle.std.specs.Prelude.{◌≡◌, length};
-ghost use Rattle.machine.specs.Shown.{showsB, shownPart, shownOf};
+ghost use Rattle.machine.specs.Shown.{shows_b, shown_part, shown_of};
 
 use crate::state::Machine;
 use cells::PLACE_CELLS;
@@ -16,14 +16,14 @@ pub struct Part {
 impl Machine {
     // The machine is sound, its pool has so many cells, and the queue is there.
     fn shows(self, length: usize, queue: usize) -> bool
-        ensures { result ≡ showsB self length queue }
+        ensures { result ≡ shows_b self length queue }
     {
         self.is_sound() & (is_pool(self.place_count, length) & (queue < self.queue_count))
     }
 
     // Where the queue's ring lies in a pool of so many cells. An unsound machine, a wrong pool length or a queue that is not there shows an empty part.
     pub fn shown_part(self, length: usize, queue: usize) -> Part
-        ensures { result ≡ shownPart self length queue }
+        ensures { result ≡ shown_part self length queue }
     {
         if !self.shows(length, queue) {
             return Part { start: 0, count: 0 };
@@ -37,7 +37,7 @@ impl Machine {
 
     // That part of the lent pool.
     pub fn shown(self, pool: &[u64], queue: usize) -> &[u64]
-        ensures { result.now ≡ shownOf (shownPart self (length pool.now) queue) pool.now }
+        ensures { result.now ≡ shown_of (shown_part self (length pool.now) queue) pool.now }
     {
         let part = self.shown_part(pool.len(), queue);
         let start = part.start;

@@ -1,13 +1,13 @@
 // Whether a machine is sound.
 ghost use Rattle.std.specs.Prelude.{◌≡◌, ◌&&◌};
-ghost use Rattle.std.specs.Queues.{queueIn};
-ghost use Rattle.sound.specs.Sound.{queuesSoundOf, stageSound};
-ghost use Rattle.places.specs.Places.{keptIn, allApartOf};
-ghost use Rattle.machine.specs.State.{stageAt};
-ghost use Rattle.machine.specs.Sound.{stagesSound, soundB};
+ghost use Rattle.parts.specs.Queues.{queue_in};
+ghost use Rattle.sound.specs.Sound.{queues_sound_of, stage_sound};
+ghost use Rattle.places.specs.Places.{kept_in, all_apart_of};
+ghost use Rattle.machine.specs.State.{stage_at};
+ghost use Rattle.machine.specs.Sound.{stages_sound, sound_b};
 
 use crate::state::Machine;
-use core::queue::Queue;
+use parts::queue::Queue;
 use keeps::Kept;
 use places::apart::all_apart;
 use sound::stage::stage_sound;
@@ -21,20 +21,20 @@ fn parts_sound(
     stages: bool,
     kept: [Kept; 4],
 ) -> bool
-    ensures { result ≡ (queuesSoundOf count places (queueIn queues) && (stages && allApartOf (queueIn queues) (keptIn kept) count)) }
+    ensures { result ≡ (queues_sound_of count places (queue_in queues) && (stages && all_apart_of (queue_in queues) (kept_in kept) count)) }
 {
     queues_sound(count, places, queues) & (stages & all_apart(queues, kept, count))
 }
 
 impl Machine {
     fn is_stage_sound(self, t: usize) -> bool
-        ensures { result ≡ stageSound self.queue_count self.place_count (stageAt self t) }
+        ensures { result ≡ stage_sound self.queue_count self.place_count (stage_at self t) }
     {
         stage_sound(self.queue_count, self.place_count, self.stage(t))
     }
 
     fn stages_sound(self) -> bool
-        ensures { result ≡ stagesSound self }
+        ensures { result ≡ stages_sound self }
     {
         let count = self.queue_count;
         let mut t = 0;
@@ -48,7 +48,7 @@ impl Machine {
     }
 
     pub fn is_sound(self) -> bool
-        ensures { result ≡ soundB self }
+        ensures { result ≡ sound_b self }
     {
         if !counts_in_range(self.queue_count, self.place_count) {
             return false;

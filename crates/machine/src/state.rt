@@ -1,12 +1,12 @@
 // The machine, its parts, and the machine with one part changed.
 ghost use Rattle.std.specs.Prelude.{◌≡◌, slice_set};
-ghost use Rattle.places.specs.Places.{keptIn};
-ghost use Rattle.machine.specs.State.{queueAt, stageAt, kept_at, withStage, numberAfter, refusedOf};
+ghost use Rattle.places.specs.Places.{kept_in};
+ghost use Rattle.machine.specs.State.{queue_at, stage_at, kept_at, with_stage, number_after, refused_of};
 
-use core::answer::{Answer, Refusal};
-use core::out::Claim;
-use core::queue::{Queue, queue_of};
-use core::stage::Stage;
+use parts::answer::{Answer, Refusal};
+use parts::out::Claim;
+use parts::queue::{Queue, queue_of};
+use parts::stage::Stage;
 use keeps::{Kept, ring_kept};
 use ring::RingNumber;
 
@@ -49,7 +49,7 @@ pub(crate) fn queues_with(mut queues: [Queue; 4], k: usize, q: Queue) -> [Queue;
 
 // A ring number that was given is never given again.
 pub(crate) fn number_after(next: RingNumber, claim: Claim) -> RingNumber
-    ensures { result ≡ numberAfter next claim }
+    ensures { result ≡ number_after next claim }
 {
     match claim {
         Claim::Nothing => next,
@@ -60,7 +60,7 @@ pub(crate) fn number_after(next: RingNumber, claim: Claim) -> RingNumber
 impl Machine {
     // Queue k, and zeros where there is none.
     pub fn queue(self, k: usize) -> Queue
-        ensures { result ≡ queueAt self k }
+        ensures { result ≡ queue_at self k }
     {
         let queues = self.queues;
         queue_of(queues, k)
@@ -68,7 +68,7 @@ impl Machine {
 
     // Thread t's stage, and idle where there is none.
     pub fn stage(self, t: usize) -> Stage
-        ensures { result ≡ stageAt self t }
+        ensures { result ≡ stage_at self t }
     {
         if t < 4 {
             return stage_of(self.threads[t]);
@@ -85,7 +85,7 @@ impl Machine {
 
     // The rings that the threads keep.
     pub(crate) fn rings_kept(self) -> [Kept; 4]
-        ensures { keptIn result ≡ kept_at self }
+        ensures { kept_in result ≡ kept_at self }
     {
         let k0 = self.kept(0);
         let k1 = self.kept(1);
@@ -95,7 +95,7 @@ impl Machine {
     }
 
     pub(crate) fn with_stage(mut self, t: usize, stage: Stage) -> Machine
-        ensures { result ≡ withStage self t stage }
+        ensures { result ≡ with_stage self t stage }
     {
         if t < 4 {
             let thread = Thread { stage };
@@ -106,7 +106,7 @@ impl Machine {
 
     // All as it was.
     pub(crate) fn refused(self, refusal: Refusal) -> Called
-        ensures { result ≡ refusedOf self refusal }
+        ensures { result ≡ refused_of self refusal }
     {
         Called {
             machine: self,

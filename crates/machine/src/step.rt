@@ -1,16 +1,16 @@
 // One step of a thread.
 ghost use Rattle.std.specs.Prelude.{◌≡◌, []};
-ghost use Rattle.std.specs.Out.{left};
-ghost use Rattle.stages.specs.Stages.{idleB};
-ghost use Rattle.gate.specs.Gate.{stepTests, thenGate};
-ghost use Rattle.advance.specs.Advance.{advanceOf};
-ghost use Rattle.machine.specs.State.{leaves, queueAt};
-ghost use Rattle.machine.specs.Step.{gateOf, stored as storedOf, step_of};
+ghost use Rattle.parts.specs.Out.{left};
+ghost use Rattle.stages.specs.Stages.{idle_b};
+ghost use Rattle.gate.specs.Gate.{step_tests, then_gate};
+ghost use Rattle.advance.specs.Advance.{advance_of};
+ghost use Rattle.machine.specs.State.{leaves, queue_at};
+ghost use Rattle.machine.specs.Step.{gate_of, stored as stored_of, step_of};
 
 use crate::state::{Called, Machine, number_after, queues_with};
 use advance::advance;
-use core::out::{Claim, Out};
-use core::stage::Stage;
+use parts::out::{Claim, Out};
+use parts::stage::Stage;
 use gate::tests::{step_tests, then_gate};
 use gate::{Gate, own_queue};
 use stages::{is_idle, touched};
@@ -18,14 +18,14 @@ use stages::{is_idle, touched};
 impl Machine {
     // All the tests of a step at a stage, in order.
     fn may_step(self, length: usize, thread: usize, stage: Stage) -> Gate
-        ensures { result ≡ thenGate (gateOf self length thread) (stepTests (idleB stage)) }
+        ensures { result ≡ then_gate (gate_of self length thread) (step_tests (idle_b stage)) }
     {
         then_gate(self.gate(length, thread), step_tests(is_idle(stage)))
     }
 
     // What the step at a stage leaves of queue k, which it touches, given what it claims.
     fn advanced(self, pool: &mut [u64], own: usize, stage: Stage, k: usize, claim: Claim) -> Out
-        ensures { left result pool.new ≡ advanceOf stage (queueAt self own).flavor (queueAt self k) claim pool.old }
+        ensures { left result pool.new ≡ advance_of stage (queue_at self own).flavor (queue_at self k) claim pool.old }
     {
         let q = self.queue(k);
         let mine = self.queue(own);
@@ -35,7 +35,7 @@ impl Machine {
 
     // The machine with what the thread's step left of queue k.
     fn stored(mut self, thread: usize, k: usize, out: Out) -> Called
-        ensures { result ≡ (storedOf self thread k (left out [])).called }
+        ensures { result ≡ (stored_of self thread k (left out [])).called }
     {
         let stage = out.stage;
         let queues = self.queues;

@@ -1,8 +1,8 @@
 // The tests that begin and step share.
 ghost use Rattle.std.specs.Prelude.{◌≡◌};
-ghost use Rattle.stages.specs.Stages.{idleB};
-ghost use Rattle.machine.specs.State.{stageAt};
-ghost use Rattle.machine.specs.Step.{gateOf};
+ghost use Rattle.stages.specs.Stages.{idle_b};
+ghost use Rattle.machine.specs.State.{stage_at};
+ghost use Rattle.machine.specs.Step.{gate_of};
 
 use crate::state::Machine;
 use gate::Gate;
@@ -11,13 +11,13 @@ use stages::is_idle;
 
 impl Machine {
     pub(crate) fn idle(self, thread: usize) -> bool
-        ensures { result ≡ idleB (stageAt self thread) }
+        ensures { result ≡ idle_b (stage_at self thread) }
     {
         is_idle(self.stage(thread))
     }
 
     pub(crate) fn gate(self, length: usize, thread: usize) -> Gate
-        ensures { result ≡ gateOf self length thread }
+        ensures { result ≡ gate_of self length thread }
     {
         call_tests(
             self.is_sound(),

@@ -28,98 +28,98 @@ upd_other f k v i d = go (eqb i k) (λ t. d (eqb→eq i k t))
 
 -- ---- counts of n cells
 
-cnt-back : (c : ℕ → ℕ) (lo n j : ℕ) → cnt c lo (suc n) j ≡ cnt c lo n j + one (c (lo + n)) j
+cnt_back : (c : ℕ → ℕ) (lo n j : ℕ) → cnt c lo (suc n) j ≡ cnt c lo n j + one (c (lo + n)) j
 unfolding cnt
-cnt-back c lo zero j = let e : lo + zero ≡ lo = omega arith in rw e (omega arith)
-cnt-back c lo (suc n) j = let e : lo + suc n ≡ suc lo + n = omega arith in rw e (omega (arith, cnt-back c (suc lo) n j))
+cnt_back c lo zero j = let e : lo + zero ≡ lo = omega arith in rw e (omega arith)
+cnt_back c lo (suc n) j = let e : lo + suc n ≡ suc lo + n = omega arith in rw e (omega (arith, cnt_back c (suc lo) n j))
 
-cnt-cong : (c d : ℕ → ℕ) (lo n j : ℕ) → ((i : ℕ) → lo ≤ i → i < lo + n → c i ≡ d i) → cnt c lo n j ≡ cnt d lo n j
+cnt_cong : (c d : ℕ → ℕ) (lo n j : ℕ) → ((i : ℕ) → lo ≤ i → i < lo + n → c i ≡ d i) → cnt c lo n j ≡ cnt d lo n j
 unfolding cnt
-cnt-cong c d lo zero j h = refl
-cnt-cong c d lo (suc n) j h =
-    ap₂ (λ (a b : ℕ). one a j + b) (h lo (omega arith) (omega arith)) (cnt-cong c d (suc lo) n j (λ i l u. h i (omega arith) (omega arith)))
+cnt_cong c d lo zero j h = refl
+cnt_cong c d lo (suc n) j h =
+    ap₂ (λ (a b : ℕ). one a j + b) (h lo (omega arith) (omega arith)) (cnt_cong c d (suc lo) n j (λ i l u. h i (omega arith) (omega arith)))
 
-cnt-split : (c : ℕ → ℕ) (lo n m j : ℕ) → cnt c lo (n + m) j ≡ cnt c lo n j + cnt c (lo + n) m j
+cnt_split : (c : ℕ → ℕ) (lo n m j : ℕ) → cnt c lo (n + m) j ≡ cnt c lo n j + cnt c (lo + n) m j
 unfolding cnt
-cnt-split c lo zero m j = let e : lo + zero ≡ lo = omega arith in let f : zero + m ≡ m = omega arith in rw (e, f) (omega arith)
-cnt-split c lo (suc n) m j =
+cnt_split c lo zero m j = let e : lo + zero ≡ lo = omega arith in let f : zero + m ≡ m = omega arith in rw (e, f) (omega arith)
+cnt_split c lo (suc n) m j =
     let e : lo + suc n ≡ suc lo + n = omega arith in
-    let f : suc n + m ≡ suc (n + m) = omega arith in rw (e, f) (omega (arith, cnt-split c (suc lo) n m j))
+    let f : suc n + m ≡ suc (n + m) = omega arith in rw (e, f) (omega (arith, cnt_split c (suc lo) n m j))
 
 -- ---- counts in a stretch
 
-pub stand-empty : (c : ℕ → ℕ) (lo hi j : ℕ) → hi ≤ lo → stand c lo hi j ≡ 0
+pub stand_empty : (c : ℕ → ℕ) (lo hi j : ℕ) → hi ≤ lo → stand c lo hi j ≡ 0
 unfolding stand cnt
-stand-empty c lo hi j h = let e : hi - lo ≡ 0 = omega arith in rw e
+stand_empty c lo hi j h = let e : hi - lo ≡ 0 = omega arith in rw e
 
-pub stand-front : (c : ℕ → ℕ) (lo hi j : ℕ) → lo < hi → stand c lo hi j ≡ one (c lo) j + stand c (suc lo) hi j
+pub stand_front : (c : ℕ → ℕ) (lo hi j : ℕ) → lo < hi → stand c lo hi j ≡ one (c lo) j + stand c (suc lo) hi j
 unfolding stand cnt
-stand-front c lo hi j h = let e : hi - lo ≡ suc (hi - suc lo) = omega arith in rw e
+stand_front c lo hi j h = let e : hi - lo ≡ suc (hi - suc lo) = omega arith in rw e
 
-pub stand-back : (c : ℕ → ℕ) (lo hi j : ℕ) → lo ≤ hi → stand c lo (suc hi) j ≡ stand c lo hi j + one (c hi) j
+pub stand_back : (c : ℕ → ℕ) (lo hi j : ℕ) → lo ≤ hi → stand c lo (suc hi) j ≡ stand c lo hi j + one (c hi) j
 unfolding stand
-stand-back c lo hi j h =
+stand_back c lo hi j h =
     let e : suc hi - lo ≡ suc (hi - lo) = omega arith in
-    let f : lo + (hi - lo) ≡ hi = omega arith in rw e (cnt-back c lo (hi - lo) j ∙ rw f)
+    let f : lo + (hi - lo) ≡ hi = omega arith in rw e (cnt_back c lo (hi - lo) j ∙ rw f)
 
-pub stand-cong : (c d : ℕ → ℕ) (lo hi j : ℕ) → ((i : ℕ) → lo ≤ i → i < hi → c i ≡ d i) → stand c lo hi j ≡ stand d lo hi j
+pub stand_cong : (c d : ℕ → ℕ) (lo hi j : ℕ) → ((i : ℕ) → lo ≤ i → i < hi → c i ≡ d i) → stand c lo hi j ≡ stand d lo hi j
 unfolding stand
-stand-cong c d lo hi j h = cnt-cong c d lo (hi - lo) j (λ i l u. h i l (omega arith))
+stand_cong c d lo hi j h = cnt_cong c d lo (hi - lo) j (λ i l u. h i l (omega arith))
 
-pub stand-split : (c : ℕ → ℕ) (lo mid hi j : ℕ) → lo ≤ mid → mid ≤ hi → stand c lo hi j ≡ stand c lo mid j + stand c mid hi j
+pub stand_split : (c : ℕ → ℕ) (lo mid hi j : ℕ) → lo ≤ mid → mid ≤ hi → stand c lo hi j ≡ stand c lo mid j + stand c mid hi j
 unfolding stand
-stand-split c lo mid hi j h k =
+stand_split c lo mid hi j h k =
     let e : hi - lo ≡ (mid - lo) + (hi - mid) = omega arith in
-    let f : lo + (mid - lo) ≡ mid = omega arith in rw e (cnt-split c lo (mid - lo) (hi - mid) j ∙ rw f)
+    let f : lo + (mid - lo) ≡ mid = omega arith in rw e (cnt_split c lo (mid - lo) (hi - mid) j ∙ rw f)
 
 -- ---- sums over the queues
 
-pub sum-cong : (n : ℕ) (f g : ℕ → ℕ) → ((i : ℕ) → i < n → f i ≡ g i) → sum_to n f ≡ sum_to n g
+pub sum_cong : (n : ℕ) (f g : ℕ → ℕ) → ((i : ℕ) → i < n → f i ≡ g i) → sum_to n f ≡ sum_to n g
 unfolding sum_to
-sum-cong zero f g h = refl
-sum-cong (suc n) f g h = ap₂ ◌+◌ (sum-cong n f g (λ i l. h i (omega arith))) (h n (omega arith))
+sum_cong zero f g h = refl
+sum_cong (suc n) f g h = ap₂ ◌+◌ (sum_cong n f g (λ i l. h i (omega arith))) (h n (omega arith))
 
 -- two families that agree but at k: their sums differ as they do at k
-pub sum-but : (n k : ℕ) (f g : ℕ → ℕ) → k < n → ((i : ℕ) → i < n → (i ≡ k → ⊥) → f i ≡ g i) → sum_to n f + g k ≡ sum_to n g + f k
+pub sum_but : (n k : ℕ) (f g : ℕ → ℕ) → k < n → ((i : ℕ) → i < n → (i ≡ k → ⊥) → f i ≡ g i) → sum_to n f + g k ≡ sum_to n g + f k
 unfolding sum_to
-sum-but zero k f g l h = omega arith
-sum-but (suc n) k f g l h = go (λ m. sum-but n k f g m (λ i p. h i (omega arith))) (ℕ_discrete n k)
+sum_but zero k f g l h = omega arith
+sum_but (suc n) k f g l h = go (λ m. sum_but n k f g m (λ i p. h i (omega arith))) (ℕ_discrete n k)
   where
     go : (k < n → sum_to n f + g k ≡ sum_to n g + f k) → Dec (n ≡ k) → sum_to (suc n) f + g k ≡ sum_to (suc n) g + f k
-    go r (yes e) = let s : sum_to n f ≡ sum_to n g = sum-cong n f g (λ i p. h i (omega arith) (λ q. omega arith)) in rw (← e) (omega arith)
+    go r (yes e) = let s : sum_to n f ≡ sum_to n g = sum_cong n f g (λ i p. h i (omega arith) (λ q. omega arith)) in rw (← e) (omega arith)
     go r (no d) = let q : k < n = omega arith in omega (arith, r q, h n (omega arith) d)
 
 -- two families that agree but at k and t
-pub sum-two : (n k t : ℕ) (f g : ℕ → ℕ) → k < n → t < n → (t ≡ k → ⊥) → ((i : ℕ) → i < n → (i ≡ k → ⊥) → (i ≡ t → ⊥) → f i ≡ g i)
+pub sum_two : (n k t : ℕ) (f g : ℕ → ℕ) → k < n → t < n → (t ≡ k → ⊥) → ((i : ℕ) → i < n → (i ≡ k → ⊥) → (i ≡ t → ⊥) → f i ≡ g i)
     → sum_to n f + (g k + g t) ≡ sum_to n g + (f k + f t)
-sum-two n k t f g a b d h =
+sum_two n k t f g a b d h =
     let u : ℕ → ℕ = upd f k (g k) in
-    let x = sum-but n k u f a (λ i l e. upd_other f k (g k) i e) in
-    let y = sum-but n t u g b (λ i l e. go i l e (ℕ_discrete i k)) in
+    let x = sum_but n k u f a (λ i l e. upd_other f k (g k) i e) in
+    let y = sum_but n t u g b (λ i l e. go i l e (ℕ_discrete i k)) in
     omega (arith, x, y, upd_same f k (g k) k refl, upd_other f k (g k) t d)
   where
     go : (i : ℕ) → i < n → (i ≡ t → ⊥) → Dec (i ≡ k) → upd f k (g k) i ≡ g i
     go i l e (yes p) = upd_same f k (g k) i p ∙ ap g (sym p)
     go i l e (no p) = upd_other f k (g k) i p ∙ h i l p e
 
-pub sum-zero : (n : ℕ) → sum_to n (λ i. 0) ≡ 0
+pub sum_zero : (n : ℕ) → sum_to n (λ i. 0) ≡ 0
 unfolding sum_to
-sum-zero zero = refl
-sum-zero (suc n) = omega (arith, sum-zero n)
+sum_zero zero = refl
+sum_zero (suc n) = omega (arith, sum_zero n)
 
 -- one index changed, inside the stretch
-pub stand-upd : (c : ℕ → ℕ) (lo hi k v j : ℕ) → lo ≤ k → k < hi → stand (upd c k v) lo hi j + one (c k) j ≡ stand c lo hi j + one v j
-stand-upd c lo hi k v j a b =
+pub stand_upd : (c : ℕ → ℕ) (lo hi k v j : ℕ) → lo ≤ k → k < hi → stand (upd c k v) lo hi j + one (c k) j ≡ stand c lo hi j + one v j
+stand_upd c lo hi k v j a b =
     let d : ℕ → ℕ = upd c k v in
-    let e₁ : stand d lo k j ≡ stand c lo k j = stand-cong d c lo k j (λ i l u. upd_other c k v i (λ e. omega arith)) in
-    let e₂ : stand d (suc k) hi j ≡ stand c (suc k) hi j = stand-cong d c (suc k) hi j (λ i l u. upd_other c k v i (λ e. omega arith)) in
+    let e₁ : stand d lo k j ≡ stand c lo k j = stand_cong d c lo k j (λ i l u. upd_other c k v i (λ e. omega arith)) in
+    let e₂ : stand d (suc k) hi j ≡ stand c (suc k) hi j = stand_cong d c (suc k) hi j (λ i l u. upd_other c k v i (λ e. omega arith)) in
     let e₃ : one (d k) j ≡ one v j = ap (λ (u : ℕ). one u j) (upd_same c k v k refl) in
     omega (
       arith,
-      stand-split c lo k hi j a (omega arith),
-      stand-split d lo k hi j a (omega arith),
-      stand-front c k hi j b,
-      stand-front d k hi j b,
+      stand_split c lo k hi j a (omega arith),
+      stand_split d lo k hi j a (omega arith),
+      stand_front c k hi j b,
+      stand_front d k hi j b,
       e₁,
       e₂,
       e₃,

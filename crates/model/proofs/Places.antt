@@ -6,15 +6,15 @@ use Prim.Native.Nat.{ℕ, suc, ◌%◌, ◌<◌}
 use native.Mathlib.Omega.{arith}
 use native.Mathlib.Decide.{ℕ_discrete}
 use Rattle.model.specs.Count.{upd}
-use Rattle.model.specs.Stage.{Flavour, Queue, at, cap, setCell, swap, own, StealStage, steal-front, steal-back, steal-ring, steal-read}
-use Rattle.model.specs.Stage.{steal-reload, steal-exchange, source, SourceStage, source-front, source-back, source-ring, source_first, all-copy}
-use Rattle.model.specs.Stage.{all-reload, all-exchange, one-first, one-back, one-read, one-reload, one-exchange, OwnStage, reserve-back}
-use Rattle.model.specs.Stage.{reserve-front, reserve-resize, own_back, all-write, one-write, swap-near, swap-far, swap-put, swap-last}
-use Rattle.model.specs.Stage.{own-store, Stage, idle, push, fifoPop, lifoPop, shrink, steal, len, ownBatch, Out}
+use Rattle.model.specs.Stage.{Flavour, Queue, at, cap, set_cell, swap, own, StealStage, steal_front, steal_back, steal_ring, steal_read}
+use Rattle.model.specs.Stage.{steal_reload, steal_exchange, source, SourceStage, source_front, source_back, source_ring, source_first, all_copy}
+use Rattle.model.specs.Stage.{all_reload, all_exchange, one_first, one_back, one_read, one_reload, one_exchange, OwnStage, reserve_back}
+use Rattle.model.specs.Stage.{reserve_front, reserve_resize, own_back, all_write, one_write, swap_near, swap_far, swap_put, swap_last}
+use Rattle.model.specs.Stage.{own_store, Stage, idle, push, fifo_pop, lifo_pop, shrink, steal, len, own_batch, Out}
 use Rattle.model.specs.Tables.{Claim}
 use Rattle.model.specs.Machine.{State, stored}
 use Rattle.model.specs.Invariant.{StealKnows, OwnKnows, SourceKnows, seen, Aware, Inv}
-use Rattle.model.specs.Memory.{StealHolds, OwnHolds, SourceHolds, Holds, builds, Building, not-building, building, cells_of, kept, Effect, Held}
+use Rattle.model.specs.Memory.{StealHolds, OwnHolds, SourceHolds, Holds, builds, Building, not_building, building, cells_of, kept, Effect, Held}
 use Rattle.model.specs.Memory.{Built, Live, Named, content, Keeps, Free, put}
 use Rattle.model.proofs.CountLaws.{upd_same, upd_other}
 use Rattle.model.proofs.Effects.{Does}
@@ -85,72 +85,72 @@ module _ (n : ℕ) (s s' : State) (place : ℕ → ℕ → ℕ) (pool : ℕ → 
 -- ---- a live ring has a name
 
 module _ (n : ℕ) (fl : ℕ → Flavour) (mem : ℕ → ℕ) (s : State) (v : Inv n fl mem s) where
-  steal-named : (k : ℕ) (p : StealStage) (r : ℕ) → StealKnows (fl k) p (seen n fl s k) → StealHolds p r → r < (s.queues k).top
-  steal-named k steal-front r w h = absurd h
-  steal-named k (steal-back f) r w h = absurd h
-  steal-named k (steal-ring f) r w h = absurd h
-  steal-named k (steal-read i f) r w h = rw h w.1.0
-  steal-named k (steal-reload i f x) r w h = rw h w.2
-  steal-named k (steal-exchange i f x) r w h = rw h w.2
+  steal_named : (k : ℕ) (p : StealStage) (r : ℕ) → StealKnows (fl k) p (seen n fl s k) → StealHolds p r → r < (s.queues k).top
+  steal_named k steal_front r w h = absurd h
+  steal_named k (steal_back f) r w h = absurd h
+  steal_named k (steal_ring f) r w h = absurd h
+  steal_named k (steal_read i f) r w h = rw h w.1.0
+  steal_named k (steal_reload i f x) r w h = rw h w.2
+  steal_named k (steal_exchange i f x) r w h = rw h w.2
 
-  source-named : (k t : ℕ) (p : SourceStage) (r : ℕ) → SourceKnows (fl k) (fl t) p (at (s.queues t)) (seen n fl s k) → SourceHolds p r
+  source_named : (k t : ℕ) (p : SourceStage) (r : ℕ) → SourceKnows (fl k) (fl t) p (at (s.queues t)) (seen n fl s k) → SourceHolds p r
       → r < (s.queues k).top
-  source-named k t (source-front m others) r w h = absurd h
-  source-named k t (source-back m others f) r w h = absurd h
-  source-named k t (source-ring a b) r w h = absurd h
-  source-named k t (source_first i) r w h = rw h w.1.0
-  source-named k t (all-copy i x) r w h = rw h w.1.0
-  source-named k t (all-reload i) r w h = rw h w.1
-  source-named k t (all-exchange i) r w h = rw h w.1
-  source-named k t (one-first i x) r w h = rw h w.0.2
-  source-named k t (one-back i x) r w h = rw h w.2
-  source-named k t (one-read i x) r w h = rw h w.2
-  source-named k t (one-reload i x y) r w h = rw h w.0.2
-  source-named k t (one-exchange i x y) r w h = rw h w.0.2
+  source_named k t (source_front m others) r w h = absurd h
+  source_named k t (source_back m others f) r w h = absurd h
+  source_named k t (source_ring a b) r w h = absurd h
+  source_named k t (source_first i) r w h = rw h w.1.0
+  source_named k t (all_copy i x) r w h = rw h w.1.0
+  source_named k t (all_reload i) r w h = rw h w.1
+  source_named k t (all_exchange i) r w h = rw h w.1
+  source_named k t (one_first i x) r w h = rw h w.0.2
+  source_named k t (one_back i x) r w h = rw h w.2
+  source_named k t (one_read i x) r w h = rw h w.2
+  source_named k t (one_reload i x y) r w h = rw h w.0.2
+  source_named k t (one_exchange i x y) r w h = rw h w.0.2
 
-  own-named : (k t : ℕ) (p : OwnStage) (r : ℕ) → OwnKnows (fl k) (fl t) p (at (s.queues t)) (seen n fl s k) → OwnHolds p r → r < (s.queues k).top
-  own-named k t (reserve-back a) r w h = absurd h
-  own-named k t (reserve-front a b) r w h = absurd h
-  own-named k t (reserve-resize a z) r w h = absurd h
-  own-named k t (own_back a) r w h = absurd h
-  own-named k t (all-write i x y) r w h = rw h w.1.0
-  own-named k t (one-write i x y) r w h = rw h w.2
-  own-named k t (swap-near i x) r w h = rw h w
-  own-named k t (swap-far i x y) r w h = rw h w
-  own-named k t (swap-put i x y z) r w h = rw h w
-  own-named k t (swap-last i x y) r w h = rw h w
-  own-named k t (own-store i) r w h = rw h w
+  own_named : (k t : ℕ) (p : OwnStage) (r : ℕ) → OwnKnows (fl k) (fl t) p (at (s.queues t)) (seen n fl s k) → OwnHolds p r → r < (s.queues k).top
+  own_named k t (reserve_back a) r w h = absurd h
+  own_named k t (reserve_front a b) r w h = absurd h
+  own_named k t (reserve_resize a z) r w h = absurd h
+  own_named k t (own_back a) r w h = absurd h
+  own_named k t (all_write i x y) r w h = rw h w.1.0
+  own_named k t (one_write i x y) r w h = rw h w.2
+  own_named k t (swap_near i x) r w h = rw h w
+  own_named k t (swap_far i x y) r w h = rw h w
+  own_named k t (swap_put i x y z) r w h = rw h w
+  own_named k t (swap_last i x y) r w h = rw h w
+  own_named k t (own_store i) r w h = rw h w
 
   holds_named : (t : ℕ) → t < n → (x : Stage) → Aware n fl s t x → (k r : ℕ) → Holds x k r → (k < n) × (r < (s.queues k).top)
   holds_named t l idle w k r h = absurd h
   holds_named t l (push x p) w k r h = absurd h
-  holds_named t l (fifoPop a p) w k r h = absurd h
-  holds_named t l (lifoPop a p) w k r h = absurd h
+  holds_named t l (fifo_pop a p) w k r h = absurd h
+  holds_named t l (lifo_pop a p) w k r h = absurd h
   holds_named t l (shrink a x z) w k r h = absurd h
-  holds_named t l (steal i p) w k r h = rw h.0 (w.0, steal-named i p r w.1 h.1)
+  holds_named t l (steal i p) w k r h = rw h.0 (w.0, steal_named i p r w.1 h.1)
   holds_named t l (len i p) w k r h = absurd h
-  holds_named t l (ownBatch p) w k r h = absurd h
-  holds_named t l (source i p) w k r h = rw h.0 (w.0, source-named i t p r w.2 h.1)
-  holds_named t l (own i p) w k r h = rw h.0 (w.0, own-named i t p r w.2 h.1)
+  holds_named t l (own_batch p) w k r h = absurd h
+  holds_named t l (source i p) w k r h = rw h.0 (w.0, source_named i t p r w.2 h.1)
+  holds_named t l (own i p) w k r h = rw h.0 (w.0, own_named i t p r w.2 h.1)
 
   -- a ring that an operation in flight holds
-  pub held-named : (k r : ℕ) → Held n s k r → (k < n) × (r < (s.queues k).top)
-  held-named k r h = holds_named h.0 h.1 (s.stages h.0) (v.aware h.0 h.1) k r h.2
+  pub held_named : (k r : ℕ) → Held n s k r → (k < n) × (r < (s.queues k).top)
+  held_named k r h = holds_named h.0 h.1 (s.stages h.0) (v.aware h.0 h.1) k r h.2
 
-  pub live-named : (k r : ℕ) → Live n s k r → Named n s k r
-  live-named k r l = go l.1
+  pub live_named : (k r : ℕ) → Live n s k r → Named n s k r
+  live_named k r l = go l.1
     where
       go : (r ≡ (s.queues k).ring) ⊎ Held n s k r ⊎ Built n s k r → Named n s k r
-      go (inl e) = let h = (v.oks k l.0).ring-top in inl (omega arith)
-      go (inr (inl h)) = inl (held-named k r h).1
+      go (inl e) = let h = (v.oks k l.0).ring_top in inl (omega arith)
+      go (inr (inl h)) = inl (held_named k r h).1
       go (inr (inr h)) = inr h
 
   -- the cells of a ring that the queue has or had
-  pub content-old : (k r : ℕ) → r < (s.queues k).top → content s k r ≡ (s.queues k).rings r
-  content-old k r l = upd_other (s.queues k).rings (s.queues k).top (cells_of (builds (s.stages k))) r (λ e. omega arith)
+  pub content_old : (k r : ℕ) → r < (s.queues k).top → content s k r ≡ (s.queues k).rings r
+  content_old k r l = upd_other (s.queues k).rings (s.queues k).top (cells_of (builds (s.stages k))) r (λ e. omega arith)
 
-pub content-new : (s : State) (k : ℕ) → content s k (s.queues k).top ≡ cells_of (builds (s.stages k))
-content-new s k = upd_same (s.queues k).rings (s.queues k).top (cells_of (builds (s.stages k))) (s.queues k).top refl
+pub content_new : (s : State) (k : ℕ) → content s k (s.queues k).top ≡ cells_of (builds (s.stages k))
+content_new s k = upd_same (s.queues k).rings (s.queues k).top (cells_of (builds (s.stages k))) (s.queues k).top refl
 
 -- ---- any step: thread t's, on queue k
 
@@ -162,182 +162,182 @@ module _ (n : ℕ) (fl : ℕ → Flavour) (mem : ℕ → ℕ) (s : State) (v : I
   abbrev Left : ℕ → ℕ → Type 0
   Left j r = (r ≡ (s.queues j).ring) ⊎ Held n s j r ⊎ Built n s j r
 
-  stage-t : s'.stages t ≡ o.stage
-  stage-t = upd_same s.stages t o.stage t refl
+  stage_t : s'.stages t ≡ o.stage
+  stage_t = upd_same s.stages t o.stage t refl
 
-  stage-other : (u : ℕ) → (u ≡ t → ⊥) → s'.stages u ≡ s.stages u
-  stage-other u e = upd_other s.stages t o.stage u e
+  stage_other : (u : ℕ) → (u ≡ t → ⊥) → s'.stages u ≡ s.stages u
+  stage_other u e = upd_other s.stages t o.stage u e
 
-  queue-other : (j : ℕ) → (j ≡ k → ⊥) → s'.queues j ≡ s.queues j
-  queue-other j e = upd_other s.queues k o.queue j e
+  queue_other : (j : ℕ) → (j ≡ k → ⊥) → s'.queues j ≡ s.queues j
+  queue_other j e = upd_other s.queues k o.queue j e
 
   -- what is held was live
-  held-left : (j r : ℕ) → Held n s' j r → Left j r
-  held-left j r h = go (ℕ_discrete h.0 t)
+  held_left : (j r : ℕ) → Held n s' j r → Left j r
+  held_left j r h = go (ℕ_discrete h.0 t)
     where
       back : Holds (s.stages t) j r ⊎ ((j ≡ k) × (r ≡ (s.queues k).ring)) → Left j r
       back (inl z) = inr (inl (t, lt, z))
       back (inr z) = inl (z.1 ∙ ap (λ (i : ℕ). (s.queues i).ring) (sym z.0))
 
       go : Dec (h.0 ≡ t) → Left j r
-      go (yes p) = back (d.holds j r (subst (λ (x : Stage). Holds x j r) (ap s'.stages p ∙ stage-t) h.2))
-      go (no p) = inr (inl (h.0, h.1, subst (λ (x : Stage). Holds x j r) (stage-other h.0 p) h.2))
+      go (yes p) = back (d.holds j r (subst (λ (x : Stage). Holds x j r) (ap s'.stages p ∙ stage_t) h.2))
+      go (no p) = inr (inl (h.0, h.1, subst (λ (x : Stage). Holds x j r) (stage_other h.0 p) h.2))
 
   -- the rings of another thread's queue, where that queue is not the one that t touched
-  live-other : (j r : ℕ) → (j ≡ t → ⊥) → (s'.queues j).ring ≡ (s.queues j).ring → (s'.queues j).top ≡ (s.queues j).top → Live n s' j r → Live n s j r
-  live-other j r e a b m = (m.0, go m.1)
+  live_other : (j r : ℕ) → (j ≡ t → ⊥) → (s'.queues j).ring ≡ (s.queues j).ring → (s'.queues j).top ≡ (s.queues j).top → Live n s' j r → Live n s j r
+  live_other j r e a b m = (m.0, go m.1)
     where
       go : (r ≡ (s'.queues j).ring) ⊎ Held n s' j r ⊎ Built n s' j r → Left j r
       go (inl z) = inl (z ∙ a)
-      go (inr (inl z)) = held-left j r z
-      go (inr (inr z)) = inr (inr (z.0 ∙ b, λ y. z.1 (ap builds (stage-other j e) ∙ y)))
+      go (inr (inl z)) = held_left j r z
+      go (inr (inr z)) = inr (inr (z.0 ∙ b, λ y. z.1 (ap builds (stage_other j e) ∙ y)))
 
-  content-other : (j r x : ℕ) → (j ≡ t → ⊥) → (s'.queues j).rings ≡ (s.queues j).rings → (s'.queues j).top ≡ (s.queues j).top
+  content_other : (j r x : ℕ) → (j ≡ t → ⊥) → (s'.queues j).rings ≡ (s.queues j).rings → (s'.queues j).top ≡ (s.queues j).top
       → content s' j r x ≡ content s j r x
-  content-other j r x e a b = rw (a, b, stage-other j e)
+  content_other j r x e a b = rw (a, b, stage_other j e)
 
   -- the rings of t's own queue, by what the step did
   live_own : (r : ℕ) → ((s'.queues t).ring ≡ (s.queues t).ring) → ((s'.queues t).top ≡ (s.queues t).top)
-      → ((builds o.stage ≡ not-building → ⊥) → builds (s.stages t) ≡ not-building → ⊥) → Live n s' t r → Live n s t r
+      → ((builds o.stage ≡ not_building → ⊥) → builds (s.stages t) ≡ not_building → ⊥) → Live n s' t r → Live n s t r
   live_own r a b c m = (m.0, go m.1)
     where
       go : (r ≡ (s'.queues t).ring) ⊎ Held n s' t r ⊎ Built n s' t r → Left t r
       go (inl z) = inl (z ∙ a)
-      go (inr (inl z)) = held-left t r z
-      go (inr (inr z)) = inr (inr (z.0 ∙ b, c (λ y. z.1 (ap builds stage-t ∙ y))))
+      go (inr (inl z)) = held_left t r z
+      go (inr (inr z)) = inr (inr (z.0 ∙ b, c (λ y. z.1 (ap builds stage_t ∙ y))))
 
   -- ---- nothing written
 
   module _ (e : Effect kept t k g (builds (s.stages t)) (s.queues k) (builds o.stage) o.queue) where
-    ring-at : (j : ℕ) → (s'.queues j).ring ≡ (s.queues j).ring
-    ring-at j = go (ℕ_discrete j k)
+    ring_at : (j : ℕ) → (s'.queues j).ring ≡ (s.queues j).ring
+    ring_at j = go (ℕ_discrete j k)
       where
         go : Dec (j ≡ k) → (s'.queues j).ring ≡ (s.queues j).ring
         go (yes p) = ap (λ (q : Queue). q.ring) (upd_same s.queues k o.queue j p) ∙ e.2 ∙ ap (λ (i : ℕ). (s.queues i).ring) (sym p)
-        go (no p) = ap (λ (q : Queue). q.ring) (queue-other j p)
+        go (no p) = ap (λ (q : Queue). q.ring) (queue_other j p)
 
-    pub top-at : (j : ℕ) → (s'.queues j).top ≡ (s.queues j).top
-    top-at j = go (ℕ_discrete j k)
+    pub top_at : (j : ℕ) → (s'.queues j).top ≡ (s.queues j).top
+    top_at j = go (ℕ_discrete j k)
       where
         go : Dec (j ≡ k) → (s'.queues j).top ≡ (s.queues j).top
         go (yes p) = ap (λ (q : Queue). q.top) (upd_same s.queues k o.queue j p) ∙ e.3 ∙ ap (λ (i : ℕ). (s.queues i).top) (sym p)
-        go (no p) = ap (λ (q : Queue). q.top) (queue-other j p)
+        go (no p) = ap (λ (q : Queue). q.top) (queue_other j p)
 
-    rings-at : (j : ℕ) → (s'.queues j).rings ≡ (s.queues j).rings
-    rings-at j = go (ℕ_discrete j k)
+    rings_at : (j : ℕ) → (s'.queues j).rings ≡ (s.queues j).rings
+    rings_at j = go (ℕ_discrete j k)
       where
         go : Dec (j ≡ k) → (s'.queues j).rings ≡ (s.queues j).rings
         go (yes p) = ap (λ (q : Queue). q.rings) (upd_same s.queues k o.queue j p) ∙ e.0 ∙ ap (λ (i : ℕ). (s.queues i).rings) (sym p)
-        go (no p) = ap (λ (q : Queue). q.rings) (queue-other j p)
+        go (no p) = ap (λ (q : Queue). q.rings) (queue_other j p)
 
-    pub builds-on : (builds o.stage ≡ not-building → ⊥) → builds o.stage ≡ builds (s.stages t)
-    builds-on h = go e.4
+    pub builds_on : (builds o.stage ≡ not_building → ⊥) → builds o.stage ≡ builds (s.stages t)
+    builds_on h = go e.4
       where
-        go : (builds o.stage ≡ builds (s.stages t)) ⊎ (builds o.stage ≡ not-building) → builds o.stage ≡ builds (s.stages t)
+        go : (builds o.stage ≡ builds (s.stages t)) ⊎ (builds o.stage ≡ not_building) → builds o.stage ≡ builds (s.stages t)
         go (inl z) = z
         go (inr z) = absurd (h z)
 
-    kept-live : (j r : ℕ) → Live n s' j r → Live n s j r
-    kept-live j r m = go (ℕ_discrete j t)
+    kept_live : (j r : ℕ) → Live n s' j r → Live n s j r
+    kept_live j r m = go (ℕ_discrete j t)
       where
         go : Dec (j ≡ t) → Live n s j r
         go (yes p) =
             subst (λ (i : ℕ). Live n s i r) (sym p)
-            (live_own r (ring-at t) (top-at t) (λ h y. h (builds-on h ∙ y)) (subst (λ (i : ℕ). Live n s' i r) p m))
-        go (no p) = live-other j r p (ring-at j) (top-at j) m
+            (live_own r (ring_at t) (top_at t) (λ h y. h (builds_on h ∙ y)) (subst (λ (i : ℕ). Live n s' i r) p m))
+        go (no p) = live_other j r p (ring_at j) (top_at j) m
 
-    kept-content : (j r : ℕ) → Live n s' j r → (x : ℕ) → content s' j r x ≡ content s j r x
-    kept-content j r m x = go (live-named n fl mem s' v' j r m)
+    kept_content : (j r : ℕ) → Live n s' j r → (x : ℕ) → content s' j r x ≡ content s j r x
+    kept_content j r m x = go (live_named n fl mem s' v' j r m)
       where
-        same : Dec (j ≡ t) → (builds (s'.stages j) ≡ not-building → ⊥) → builds (s'.stages j) ≡ builds (s.stages j)
+        same : Dec (j ≡ t) → (builds (s'.stages j) ≡ not_building → ⊥) → builds (s'.stages j) ≡ builds (s.stages j)
         same (yes p) h =
-            ap (λ (i : ℕ). builds (s'.stages i)) p ∙ ap builds stage-t
-            ∙ builds-on (λ y. h (ap (λ (i : ℕ). builds (s'.stages i)) p ∙ ap builds stage-t ∙ y)) ∙ ap (λ (i : ℕ). builds (s.stages i)) (sym p)
-        same (no p) h = ap builds (stage-other j p)
+            ap (λ (i : ℕ). builds (s'.stages i)) p ∙ ap builds stage_t
+            ∙ builds_on (λ y. h (ap (λ (i : ℕ). builds (s'.stages i)) p ∙ ap builds stage_t ∙ y)) ∙ ap (λ (i : ℕ). builds (s.stages i)) (sym p)
+        same (no p) h = ap builds (stage_other j p)
 
         go : Named n s' j r → content s' j r x ≡ content s j r x
-        go (inl z) = let b = top-at j in rw (content-old n fl mem s' v' j r z, content-old n fl mem s v j r (omega arith), rings-at j)
-        go (inr z) = rw (rings-at j, top-at j, same (ℕ_discrete j t) z.1)
+        go (inl z) = let b = top_at j in rw (content_old n fl mem s' v' j r z, content_old n fl mem s v j r (omega arith), rings_at j)
+        go (inr z) = rw (rings_at j, top_at j, same (ℕ_discrete j t) z.1)
 
-    pub kept-keeps : (place pool : ℕ → ℕ → ℕ) → Keeps n s place pool → Keeps n s' place pool
-    kept-keeps place pool w = letting n s s' place pool w kept-live kept-content
+    pub kept_keeps : (place pool : ℕ → ℕ → ℕ) → Keeps n s place pool → Keeps n s' place pool
+    kept_keeps place pool w = letting n s s' place pool w kept_live kept_content
 
   -- ---- on the own queue
 
   module _ (kt : k ≡ t) where
-    queue-t : s'.queues t ≡ o.queue
-    queue-t = upd_same s.queues k o.queue t (sym kt)
+    queue_t : s'.queues t ≡ o.queue
+    queue_t = upd_same s.queues k o.queue t (sym kt)
 
     other : (j : ℕ) → (j ≡ t → ⊥) → s'.queues j ≡ s.queues j
-    other j p = queue-other j (λ e. p (e ∙ kt))
+    other j p = queue_other j (λ e. p (e ∙ kt))
 
-    live-away : (j r : ℕ) → (j ≡ t → ⊥) → Live n s' j r → Live n s j r
-    live-away j r p = live-other j r p (ap (λ (q : Queue). q.ring) (other j p)) (ap (λ (q : Queue). q.top) (other j p))
+    live_away : (j r : ℕ) → (j ≡ t → ⊥) → Live n s' j r → Live n s j r
+    live_away j r p = live_other j r p (ap (λ (q : Queue). q.ring) (other j p)) (ap (λ (q : Queue). q.top) (other j p))
 
-    content-away : (j r x : ℕ) → (j ≡ t → ⊥) → content s' j r x ≡ content s j r x
-    content-away j r x p = content-other j r x p (ap (λ (q : Queue). q.rings) (other j p)) (ap (λ (q : Queue). q.top) (other j p))
+    content_away : (j r x : ℕ) → (j ≡ t → ⊥) → content s' j r x ≡ content s j r x
+    content_away j r x p = content_other j r x p (ap (λ (q : Queue). q.rings) (other j p)) (ap (λ (q : Queue). q.top) (other j p))
 
     -- a property of every ring, from t's and the others'
-    by-queue : (P : ℕ → Type 0) → P t → ((j : ℕ) → (j ≡ t → ⊥) → P j) → (j : ℕ) → P j
-    by-queue P a b j = go (ℕ_discrete j t)
+    by_queue : (P : ℕ → Type 0) → P t → ((j : ℕ) → (j ≡ t → ⊥) → P j) → (j : ℕ) → P j
+    by_queue P a b j = go (ℕ_discrete j t)
       where
         go : Dec (j ≡ t) → P j
         go (yes p) = subst P (sym p) a
         go (no p) = b j p
 
-    pub wrote-keeps : (i x : ℕ) → o.queue ≡ setCell (s.queues t) i x → builds (s.stages t) ≡ not-building → builds o.stage ≡ not-building
+    pub wrote_keeps : (i x : ℕ) → o.queue ≡ set_cell (s.queues t) i x → builds (s.stages t) ≡ not_building → builds o.stage ≡ not_building
         → (place pool : ℕ → ℕ → ℕ) → Keeps n s place pool → Keeps n s' place (put pool (place t (s.queues t).ring) (i % cap (s.queues t)) x)
-    wrote-keeps i x e a b place pool w =
+    wrote_keeps i x e a b place pool w =
         writing n s s' place pool w t (s.queues t).ring (i % cap (s.queues t)) x (lt, inl refl) live here away
       where
         q : Queue
         q = s.queues t
 
-        qt : s'.queues t ≡ setCell q i x
-        qt = queue-t ∙ e
+        qt : s'.queues t ≡ set_cell q i x
+        qt = queue_t ∙ e
 
         live : (j r : ℕ) → Live n s' j r → Live n s j r
-        live j r = by-queue (λ (j : ℕ). Live n s' j r → Live n s j r)
-            (live_own r (ap (λ (q : Queue). q.ring) qt) (ap (λ (q : Queue). q.top) qt) (λ h y. h b)) (λ j p. live-away j r p) j
+        live j r = by_queue (λ (j : ℕ). Live n s' j r → Live n s j r)
+            (live_own r (ap (λ (q : Queue). q.ring) qt) (ap (λ (q : Queue). q.top) qt) (λ h y. h b)) (λ j p. live_away j r p) j
 
         cur : (s.queues t).ring < (s.queues t).top
-        cur = (v.oks t lt).ring-top
+        cur = (v.oks t lt).ring_top
 
         here : (z : ℕ) → content s' t q.ring z ≡ upd (content s t q.ring) (i % cap q) x z
         here z =
             let top : (s'.queues t).top ≡ q.top = ap (λ (q : Queue). q.top) qt in
             let c = cur in
-            rw (content-old n fl mem s' v' t q.ring (omega arith), content-old n fl mem s v t q.ring c, qt)
+            rw (content_old n fl mem s' v' t q.ring (omega arith), content_old n fl mem s v t q.ring c, qt)
             (ap (λ (f : ℕ → ℕ). f z) (upd_same q.rings q.ring (upd (q.rings q.ring) (i % cap q) x) q.ring refl))
 
         mine : (r : ℕ) → Live n s' t r → (r ≡ q.ring → ⊥) → (z : ℕ) → content s' t r z ≡ content s t r z
-        mine r m p z = go (live-named n fl mem s' v' t r m)
+        mine r m p z = go (live_named n fl mem s' v' t r m)
           where
             go : Named n s' t r → content s' t r z ≡ content s t r z
             go (inl y) =
                 let top : (s'.queues t).top ≡ q.top = ap (λ (q : Queue). q.top) qt in
-                rw (content-old n fl mem s' v' t r y, content-old n fl mem s v t r (omega arith), qt)
+                rw (content_old n fl mem s' v' t r y, content_old n fl mem s v t r (omega arith), qt)
                 (ap (λ (f : ℕ → ℕ). f z) (upd_other q.rings q.ring (upd (q.rings q.ring) (i % cap q) x) r p))
-            go (inr y) = absurd (y.1 (ap builds stage-t ∙ b))
+            go (inr y) = absurd (y.1 (ap builds stage_t ∙ b))
 
         away : (j r : ℕ) → Live n s' j r → ((j ≡ t) × (r ≡ q.ring) → ⊥) → (z : ℕ) → content s' j r z ≡ content s j r z
-        away j r m p z = by-queue (λ (j : ℕ). Live n s' j r → ((j ≡ t) × (r ≡ q.ring) → ⊥) → content s' j r z ≡ content s j r z)
-            (λ m p. mine r m (λ y. p (refl, y)) z) (λ j p m y. content-away j r z p) j m p
+        away j r m p z = by_queue (λ (j : ℕ). Live n s' j r → ((j ≡ t) × (r ≡ q.ring) → ⊥) → content s' j r z ≡ content s j r z)
+            (λ m p. mine r m (λ y. p (refl, y)) z) (λ j p m y. content_away j r z p) j m p
 
     -- the queue stays, and thread t builds
     module _ (e : o.queue ≡ s.queues t) (c : ℕ) (f : ℕ → ℕ) (is : builds o.stage ≡ building c f) where
       same_queue : (j : ℕ) → s'.queues j ≡ s.queues j
-      same_queue = by-queue (λ (j : ℕ). s'.queues j ≡ s.queues j) (queue-t ∙ e) other
+      same_queue = by_queue (λ (j : ℕ). s'.queues j ≡ s.queues j) (queue_t ∙ e) other
 
-      new-cells : (x : ℕ) → content s' t (s.queues t).top x ≡ f x
-      new-cells x =
-          ap (λ (r : ℕ). content s' t r x) (sym (ap (λ (q : Queue). q.top) (same_queue t))) ∙ ap (λ (h : ℕ → ℕ). h x) (content-new s' t)
-          ∙ ap (λ (b : Building). cells_of b x) (ap builds stage-t ∙ is)
+      new_cells : (x : ℕ) → content s' t (s.queues t).top x ≡ f x
+      new_cells x =
+          ap (λ (r : ℕ). content s' t r x) (sym (ap (λ (q : Queue). q.top) (same_queue t))) ∙ ap (λ (h : ℕ → ℕ). h x) (content_new s' t)
+          ∙ ap (λ (b : Building). cells_of b x) (ap builds stage_t ∙ is)
 
       -- every other ring is as it was
-      old-cells : (j r : ℕ) → ((j ≡ t) × (r ≡ (s.queues t).top) → ⊥) → (x : ℕ) → content s' j r x ≡ content s j r x
-      old-cells j r p x =
-          by-queue (λ (j : ℕ). ((j ≡ t) × (r ≡ (s.queues t).top) → ⊥) → content s' j r x ≡ content s j r x) mine (λ j p y. content-away j r x p) j p
+      old_cells : (j r : ℕ) → ((j ≡ t) × (r ≡ (s.queues t).top) → ⊥) → (x : ℕ) → content s' j r x ≡ content s j r x
+      old_cells j r p x =
+          by_queue (λ (j : ℕ). ((j ≡ t) × (r ≡ (s.queues t).top) → ⊥) → content s' j r x ≡ content s j r x) mine (λ j p y. content_away j r x p) j p
         where
           mine : ((t ≡ t) × (r ≡ (s.queues t).top) → ⊥) → content s' t r x ≡ content s t r x
           mine p =
@@ -345,76 +345,76 @@ module _ (n : ℕ) (fl : ℕ → Flavour) (mem : ℕ → ℕ) (s : State) (v : I
               (ap (λ (h : ℕ → ℕ). h x) (upd_other (s.queues t).rings (s.queues t).top (cells_of (builds (s'.stages t))) r (λ y. p (refl, y)))
               ∙ sym (ap (λ (h : ℕ → ℕ). h x) (upd_other (s.queues t).rings (s.queues t).top (cells_of (builds (s.stages t))) r (λ y. p (refl, y)))))
 
-      pub copied-keeps : (i : ℕ) (h : ℕ → ℕ) → builds (s.stages t) ≡ building c h → f ≡ upd h (i % c) (at (s.queues t) i)
+      pub copied_keeps : (i : ℕ) (h : ℕ → ℕ) → builds (s.stages t) ≡ building c h → f ≡ upd h (i % c) (at (s.queues t) i)
           → (place pool : ℕ → ℕ → ℕ) → Keeps n s place pool → Keeps n s' place (put pool (place t (s.queues t).top) (i % c) (at (s.queues t) i))
-      copied-keeps i h was step place pool w =
+      copied_keeps i h was step place pool w =
           writing n s s' place pool w t (s.queues t).top (i % c) (at (s.queues t) i) (lt, inr (inr (refl, full)))
-          (λ j r. by-queue (λ (j : ℕ). Live n s' j r → Live n s j r)
-          (live_own r (ap (λ (q : Queue). q.ring) (same_queue t)) (ap (λ (q : Queue). q.top) (same_queue t)) (λ y. full)) (λ j p. live-away j r p) j)
-          here (λ j r m p x. old-cells j r p x)
+          (λ j r. by_queue (λ (j : ℕ). Live n s' j r → Live n s j r)
+          (live_own r (ap (λ (q : Queue). q.ring) (same_queue t)) (ap (λ (q : Queue). q.top) (same_queue t)) (λ y. full)) (λ j p. live_away j r p) j)
+          here (λ j r m p x. old_cells j r p x)
         where
-          full : builds (s.stages t) ≡ not-building → ⊥
-          full y = let z : building c h ≡ not-building = sym was ∙ y in let u : ◌≡◌ {A = ℕ} 0 1 = cc in omega arith
+          full : builds (s.stages t) ≡ not_building → ⊥
+          full y = let z : building c h ≡ not_building = sym was ∙ y in let u : ◌≡◌ {A = ℕ} 0 1 = cc in omega arith
 
           here : (x : ℕ) → content s' t (s.queues t).top x ≡ upd (content s t (s.queues t).top) (i % c) (at (s.queues t) i) x
           here x =
-              new-cells x ∙ ap (λ (h : ℕ → ℕ). h x) step
-              ∙ ap (λ (y : ℕ → ℕ). upd y (i % c) (at (s.queues t) i) x) (sym (content-new s t ∙ ap cells_of was))
+              new_cells x ∙ ap (λ (h : ℕ → ℕ). h x) step
+              ∙ ap (λ (y : ℕ → ℕ). upd y (i % c) (at (s.queues t) i) x) (sym (content_new s t ∙ ap cells_of was))
 
       -- a claim: of a place that no live ring has
-      pub claims-keeps : builds (s.stages t) ≡ not-building → (place pool : ℕ → ℕ → ℕ)
+      pub claims_keeps : builds (s.stages t) ≡ not_building → (place pool : ℕ → ℕ → ℕ)
           → Free n s place (place t (s.queues t).top) → ((x : ℕ) → f x ≡ pool (place t (s.queues t).top) x)
           → Keeps n s place pool → Keeps n s' place pool
-      claims-keeps was place pool free found w =
-          claiming n s s' place pool w t (s.queues t).top free (λ x. new-cells x ∙ found x) live (λ j r m p x. old-cells j r p x)
+      claims_keeps was place pool free found w =
+          claiming n s s' place pool w t (s.queues t).top free (λ x. new_cells x ∙ found x) live (λ j r m p x. old_cells j r p x)
         where
           mine : (r : ℕ) → Live n s' t r → ((t ≡ t) × (r ≡ (s.queues t).top) → ⊥) → Live n s t r
           mine r m p = (m.0, go m.1)
             where
               go : (r ≡ (s'.queues t).ring) ⊎ Held n s' t r ⊎ Built n s' t r → Left t r
               go (inl z) = inl (z ∙ ap (λ (q : Queue). q.ring) (same_queue t))
-              go (inr (inl z)) = held-left t r z
+              go (inr (inl z)) = held_left t r z
               go (inr (inr z)) = absurd (p (refl, z.0 ∙ ap (λ (q : Queue). q.top) (same_queue t)))
 
           live : (j r : ℕ) → Live n s' j r → ((j ≡ t) × (r ≡ (s.queues t).top) → ⊥) → Live n s j r
-          live j r m p = by-queue (λ (j : ℕ). Live n s' j r → ((j ≡ t) × (r ≡ (s.queues t).top) → ⊥) → Live n s j r) (mine r) (λ j p m y. live-away j r p m) j m p
+          live j r m p = by_queue (λ (j : ℕ). Live n s' j r → ((j ≡ t) × (r ≡ (s.queues t).top) → ⊥) → Live n s j r) (mine r) (λ j p m y. live_away j r p m) j m p
 
     -- a swap: the ring that was built has its name already
-    pub swaps-keeps : (c : ℕ) (f : ℕ → ℕ) → builds (s.stages t) ≡ building c f → o.queue ≡ swap (s.queues t) c f → builds o.stage ≡ not-building
+    pub swaps_keeps : (c : ℕ) (f : ℕ → ℕ) → builds (s.stages t) ≡ building c f → o.queue ≡ swap (s.queues t) c f → builds o.stage ≡ not_building
         → (place pool : ℕ → ℕ → ℕ) → Keeps n s place pool → Keeps n s' place pool
-    swaps-keeps c f was e is place pool w =
-        letting n s s' place pool w (λ j r. by-queue (λ (j : ℕ). Live n s' j r → Live n s j r) (mine r) (λ j p. live-away j r p) j)
-        (λ j r m x. by-queue (λ (j : ℕ). Live n s' j r → content s' j r x ≡ content s j r x) (λ m. cells r x m) (λ j p m. content-away j r x p) j m)
+    swaps_keeps c f was e is place pool w =
+        letting n s s' place pool w (λ j r. by_queue (λ (j : ℕ). Live n s' j r → Live n s j r) (mine r) (λ j p. live_away j r p) j)
+        (λ j r m x. by_queue (λ (j : ℕ). Live n s' j r → content s' j r x ≡ content s j r x) (λ m. cells r x m) (λ j p m. content_away j r x p) j m)
       where
         q : Queue
         q = s.queues t
 
         qt : s'.queues t ≡ swap q c f
-        qt = queue-t ∙ e
+        qt = queue_t ∙ e
 
-        full : builds (s.stages t) ≡ not-building → ⊥
-        full y = let z : building c f ≡ not-building = sym was ∙ y in let u : ◌≡◌ {A = ℕ} 0 1 = cc in omega arith
+        full : builds (s.stages t) ≡ not_building → ⊥
+        full y = let z : building c f ≡ not_building = sym was ∙ y in let u : ◌≡◌ {A = ℕ} 0 1 = cc in omega arith
 
         mine : (r : ℕ) → Live n s' t r → Live n s t r
         mine r m = (m.0, go m.1)
           where
             go : (r ≡ (s'.queues t).ring) ⊎ Held n s' t r ⊎ Built n s' t r → Left t r
             go (inl z) = inr (inr (z ∙ ap (λ (q : Queue). q.ring) qt, full))
-            go (inr (inl z)) = held-left t r z
-            go (inr (inr z)) = absurd (z.1 (ap builds stage-t ∙ is))
+            go (inr (inl z)) = held_left t r z
+            go (inr (inr z)) = absurd (z.1 (ap builds stage_t ∙ is))
 
         cells : (r x : ℕ) → Live n s' t r → content s' t r x ≡ content s t r x
-        cells r x m = go (live-named n fl mem s' v' t r m)
+        cells r x m = go (live_named n fl mem s' v' t r m)
           where
             to : r < suc q.top → Dec (r ≡ q.top) → upd q.rings q.top f r x ≡ content s t r x
             to y (yes p) =
                 rw p
                 (ap (λ (h : ℕ → ℕ). h x) (upd_same q.rings q.top f q.top refl)
-                ∙ sym (ap (λ (h : ℕ → ℕ). h x) (content-new s t) ∙ ap (λ (b : Building). cells_of b x) was))
-            to y (no p) = ap (λ (h : ℕ → ℕ). h x) (upd_other q.rings q.top f r p ∙ sym (content-old n fl mem s v t r (omega arith)))
+                ∙ sym (ap (λ (h : ℕ → ℕ). h x) (content_new s t) ∙ ap (λ (b : Building). cells_of b x) was))
+            to y (no p) = ap (λ (h : ℕ → ℕ). h x) (upd_other q.rings q.top f r p ∙ sym (content_old n fl mem s v t r (omega arith)))
 
             go : Named n s' t r → content s' t r x ≡ content s t r x
             go (inl y) =
                 let top : (s'.queues t).top ≡ suc q.top = ap (λ (q : Queue). q.top) qt in
-                rw (content-old n fl mem s' v' t r y, qt) (to (omega arith) (ℕ_discrete r q.top))
-            go (inr y) = absurd (y.1 (ap builds stage-t ∙ is))
+                rw (content_old n fl mem s' v' t r y, qt) (to (omega arith) (ℕ_discrete r q.top))
+            go (inr y) = absurd (y.1 (ap builds stage_t ∙ is))

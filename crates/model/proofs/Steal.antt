@@ -4,26 +4,26 @@ use Prim.Native.Nat.{ℕ, suc, ◌+◌, ◌<◌}
 use native.Mathlib.Omega.{arith}
 use native.Mathlib.Nat.{le_refl}
 use lib.Dec.{leb, eqb}
-use Rattle.base.specs.Tests.{by-test, tests}
-use Rattle.model.specs.Stage.{Flavour, fifo, lifo, Queue, cell, at, setFront, own, StealStage, steal-front, steal-back, steal-ring, steal-read}
-use Rattle.model.specs.Stage.{steal-reload, steal-exchange, LengthStage, length_back, length_front, source, Stage, idle, push, fifoPop, lifoPop}
-use Rattle.model.specs.Stage.{shrink, steal, len, ownBatch, Answer, working, empty, success, retry, moved, twoNumbers, Out, out, ended}
-use Rattle.model.specs.Tables.{stealStep, lengthStep, ownBatchStep}
+use Rattle.base.specs.Tests.{by_test, tests}
+use Rattle.model.specs.Stage.{Flavour, fifo, lifo, Queue, cell, at, set_front, own, StealStage, steal_front, steal_back, steal_ring, steal_read}
+use Rattle.model.specs.Stage.{steal_reload, steal_exchange, LengthStage, length_back, length_front, source, Stage, idle, push, fifo_pop, lifo_pop}
+use Rattle.model.specs.Stage.{shrink, steal, len, own_batch, Answer, working, empty, success, retry, moved, two_numbers, Out, out, ended}
+use Rattle.model.specs.Tables.{steal_step, length_step, own_batch_step}
 use Rattle.model.specs.Logical.{amount, accepts, gives}
 use Rattle.model.specs.Invariant.{Ok, View, view, Ev, wide, StealKnows, LengthKnows}
-use Rattle.model.proofs.Stable.{ev-refl, span_of}
+use Rattle.model.proofs.Stable.{ev_refl, span_of}
 use Rattle.model.proofs.Exchange.{won}
 
 -- the thread looks at k, or is idle
 abbrev pub From : ℕ → Stage → Type 0
 From k idle = Unit
 From k (push x p) = ⊥
-From k (fifoPop w p) = ⊥
-From k (lifoPop w p) = ⊥
+From k (fifo_pop w p) = ⊥
+From k (lifo_pop w p) = ⊥
 From k (shrink w v z) = ⊥
 From k (steal i p) = i ≡ k
 From k (len i p) = i ≡ k
-From k (ownBatch p) = Unit
+From k (own_batch p) = Unit
 From k (source i p) = ⊥
 From k (own i p) = ⊥
 
@@ -31,12 +31,12 @@ From k (own i p) = ⊥
 abbrev pub Knows : Flavour → Stage → View → (back : ℕ) → Type 0
 Knows fl idle v back = Unit
 Knows fl (push x p) v back = ⊥
-Knows fl (fifoPop w p) v back = ⊥
-Knows fl (lifoPop w p) v back = ⊥
+Knows fl (fifo_pop w p) v back = ⊥
+Knows fl (lifo_pop w p) v back = ⊥
 Knows fl (shrink w x z) v back = ⊥
 Knows fl (steal k p) v back = StealKnows fl p v
 Knows fl (len k p) v back = LengthKnows p back
-Knows fl (ownBatch p) v back = Unit
+Knows fl (own_batch p) v back = Unit
 Knows fl (source k p) v back = ⊥
 Knows fl (own k p) v back = ⊥
 
@@ -52,42 +52,42 @@ pub record Fair (fl : Flavour) (k : ℕ) (s : Stage) (q : Queue) (o : Out) : Typ
 
 module _ (fl : Flavour) (k : ℕ) (s : Stage) (q : Queue) (o : Ok fl s q) where
   look : (x : Stage) (a : Answer) → ((m j : ℕ) → accepts m a j ≡ gives a j) → From k x → Knows fl x (view s q) q.back → Fair fl k s q (out q x a)
-  look x a h f w = record { ok = o; ev = ev-refl fl (view s q); cells = refl; bal = λ m j. omega (arith, h m j); from = f; backs = refl; knows = w }
+  look x a h f w = record { ok = o; ev = ev_refl fl (view s q); cells = refl; bal = λ m j. omega (arith, h m j); from = f; backs = refl; knows = w }
 
-  steal-won : (r f v : ℕ) → StealKnows fl (steal-exchange r f v) (view s q) → q.front ≡ f → Fair fl k s q (ended (setFront q (suc f)) (success v))
-  steal-won r f v w e =
+  steal_won : (r f v : ℕ) → StealKnows fl (steal_exchange r f v) (view s q) → q.front ≡ f → Fair fl k s q (ended (set_front q (suc f)) (success v))
+  steal_won r f v w e =
       let g = won fl s q f v o w.0 w.1 e in
       record { ok = g.ok; ev = g.ev; cells = refl; bal = λ m j. omega (arith, g.bal j); from = tt; backs = refl; knows = tt }
 
-  pub steal-fair : (p : StealStage) → StealKnows fl p (view s q) → Fair fl k s q (stealStep k p q)
-  unfolding stealStep
-  steal-fair steal-front w = look (steal k (steal-back q.front)) working (λ m j. refl) refl o.reach
-  steal-fair (steal-back f) w =
+  pub steal_fair : (p : StealStage) → StealKnows fl p (view s q) → Fair fl k s q (steal_step k p q)
+  unfolding steal_step
+  steal_fair steal_front w = look (steal k (steal_back q.front)) working (λ m j. refl) refl o.reach
+  steal_fair (steal_back f) w =
       let bk = o.backs in
-      by-test (Fair fl k s q) (leb q.back f) _ _ (λ t. look idle empty (λ m j. refl) tt tt)
-      (λ t. look (steal k (steal-ring f)) working (λ m j. refl) refl (span_of fl (view s q) f 1 w (omega arith) (omega tests)))
-  steal-fair (steal-ring f) w = look (steal k (steal-read q.ring f)) working (λ m j. refl) refl (w, (o.ring-top, λ x a b c. refl))
-  steal-fair (steal-read r f) w =
-      look (steal k (steal-reload r f (cell q r f))) working (λ m j. refl) refl (w.0, λ l. w.1.1 f l (le_refl f) (one-wide fl), w.1.0)
+      by_test (Fair fl k s q) (leb q.back f) _ _ (λ t. look idle empty (λ m j. refl) tt tt)
+      (λ t. look (steal k (steal_ring f)) working (λ m j. refl) refl (span_of fl (view s q) f 1 w (omega arith) (omega tests)))
+  steal_fair (steal_ring f) w = look (steal k (steal_read q.ring f)) working (λ m j. refl) refl (w, (o.ring_top, λ x a b c. refl))
+  steal_fair (steal_read r f) w =
+      look (steal k (steal_reload r f (cell q r f))) working (λ m j. refl) refl (w.0, λ l. w.1.1 f l (le_refl f) (one_wide fl), w.1.0)
     where
-      one-wide : (fl : Flavour) → f < f + wide fl 1
-      one-wide fifo = omega arith
-      one-wide lifo = omega arith
-  steal-fair (steal-reload r f v) w =
-      by-test (Fair fl k s q) (eqb r q.ring) _ _ (λ t. look (steal k (steal-exchange r f v)) working (λ m j. refl) refl w)
+      one_wide : (fl : Flavour) → f < f + wide fl 1
+      one_wide fifo = omega arith
+      one_wide lifo = omega arith
+  steal_fair (steal_reload r f v) w =
+      by_test (Fair fl k s q) (eqb r q.ring) _ _ (λ t. look (steal k (steal_exchange r f v)) working (λ m j. refl) refl w)
       (λ t. look idle retry (λ m j. refl) tt tt)
-  steal-fair (steal-exchange r f v) w =
-      by-test (Fair fl k s q) (eqb q.front f) _ _ (λ t. steal-won r f v w (omega tests))
+  steal_fair (steal_exchange r f v) w =
+      by_test (Fair fl k s q) (eqb q.front f) _ _ (λ t. steal_won r f v w (omega tests))
       (λ t. look idle retry (λ m j. refl) tt tt)
 
-  pub length-fair : (p : LengthStage) → Fair fl k s q (lengthStep k p q)
-  unfolding lengthStep
-  length-fair length_back = look (len k (length_front q.back)) working (λ m j. refl) refl refl
-  length-fair (length_front b) = look idle (twoNumbers b q.front) (λ m j. refl) tt tt
+  pub length_fair : (p : LengthStage) → Fair fl k s q (length_step k p q)
+  unfolding length_step
+  length_fair length_back = look (len k (length_front q.back)) working (λ m j. refl) refl refl
+  length_fair (length_front b) = look idle (two_numbers b q.front) (λ m j. refl) tt tt
 
-  pub own-batch-fair : (p : LengthStage) → Fair fl k s q (ownBatchStep p q)
-  unfolding ownBatchStep
-  own-batch-fair length_back = look (ownBatch (length_front q.back)) working (λ m j. refl) tt tt
-  own-batch-fair (length_front b) =
-      by-test (λ (a : Answer). Fair fl k s q (ended q a)) (leb b q.front) _ _ (λ t. look idle empty (λ m j. refl) tt tt)
+  pub own_batch_fair : (p : LengthStage) → Fair fl k s q (own_batch_step p q)
+  unfolding own_batch_step
+  own_batch_fair length_back = look (own_batch (length_front q.back)) working (λ m j. refl) tt tt
+  own_batch_fair (length_front b) =
+      by_test (λ (a : Answer). Fair fl k s q (ended q a)) (leb b q.front) _ _ (λ t. look idle empty (λ m j. refl) tt tt)
       (λ t. look idle moved (λ m j. refl) tt tt)

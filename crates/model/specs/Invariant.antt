@@ -2,28 +2,28 @@
 -- in words that survive what others do: all such facts say "if the front has not passed f". What others may do is one relation (`Ev`).
 use Rattle.std.specs.Prelude.{◌≡◌, ℕ, suc, ◌+◌, ◌-◌, ◌%◌, ◌≤◌, ◌<◌}
 use Rattle.model.specs.Count.{stand, sum_to}
-use Rattle.model.specs.Stage.{Flavour, fifo, lifo, Queue, cell, at, cap, ResizeStage, resize-back, resize-front, resize-copy, resize-swap}
-use Rattle.model.specs.Stage.{PushStage, push-back, push-front, push-resize, push-write, push-store, FifoPopStage, fifo-back, fifo-front}
-use Rattle.model.specs.Stage.{fifo-add, fifo-restore, fifo-read, LifoPopStage, lifo-back, lifo-front, lifo-store, lifo-reload, lifo-restore}
-use Rattle.model.specs.Stage.{lifo-last, lifo-exchange, lifo-won, lifo-read, own, StealStage, steal-front, steal-back, steal-ring, steal-read}
-use Rattle.model.specs.Stage.{steal-reload, steal-exchange, LengthStage, length_back, length_front, Wanted, Haul, source, SourceStage}
-use Rattle.model.specs.Stage.{source-front, source-back, source-ring, source_first, all-copy, all-reload, all-exchange, one-first, one-back}
-use Rattle.model.specs.Stage.{one-read, one-reload, one-exchange, OwnStage, reserve-back, reserve-front, reserve-resize, own_back, all-write}
-use Rattle.model.specs.Stage.{one-write, swap-near, swap-far, swap-put, swap-last, own-store, Stage, idle, push, fifoPop, lifoPop, shrink}
-use Rattle.model.specs.Stage.{steal, len, ownBatch, Answer}
-use Rattle.model.specs.Tables.{inHand, toHand}
-use Rattle.model.specs.Machine.{ownQueue, owner, State}
-use Rattle.model.specs.Logical.{lo, hi, handOf, amount, accepts, gives, Says}
+use Rattle.model.specs.Stage.{Flavour, fifo, lifo, Queue, cell, at, cap, ResizeStage, resize_back, resize_front, resize_copy, resize_swap}
+use Rattle.model.specs.Stage.{PushStage, push_back, push_front, push_resize, push_write, push_store, FifoPopStage, fifo_back, fifo_front}
+use Rattle.model.specs.Stage.{fifo_add, fifo_restore, fifo_read, LifoPopStage, lifo_back, lifo_front, lifo_store, lifo_reload, lifo_restore}
+use Rattle.model.specs.Stage.{lifo_last, lifo_exchange, lifo_won, lifo_read, own, StealStage, steal_front, steal_back, steal_ring, steal_read}
+use Rattle.model.specs.Stage.{steal_reload, steal_exchange, LengthStage, length_back, length_front, Wanted, Haul, source, SourceStage}
+use Rattle.model.specs.Stage.{source_front, source_back, source_ring, source_first, all_copy, all_reload, all_exchange, one_first, one_back}
+use Rattle.model.specs.Stage.{one_read, one_reload, one_exchange, OwnStage, reserve_back, reserve_front, reserve_resize, own_back, all_write}
+use Rattle.model.specs.Stage.{one_write, swap_near, swap_far, swap_put, swap_last, own_store, Stage, idle, push, fifo_pop, lifo_pop, shrink}
+use Rattle.model.specs.Stage.{steal, len, own_batch, Answer}
+use Rattle.model.specs.Tables.{in_hand, to_hand}
+use Rattle.model.specs.Machine.{own_queue, owner, State}
+use Rattle.model.specs.Logical.{lo, hi, hand_of, amount, accepts, gives, Says}
 
 -- ---- what the owner's stage knows
 
-abbrev pub isFifo : Flavour → Type 0
-isFifo fifo = Unit
-isFifo lifo = ⊥
+abbrev pub is_fifo : Flavour → Type 0
+is_fifo fifo = Unit
+is_fifo lifo = ⊥
 
-abbrev pub isLifo : Flavour → Type 0
-isLifo fifo = ⊥
-isLifo lifo = Unit
+abbrev pub is_lifo : Flavour → Type 0
+is_lifo fifo = ⊥
+is_lifo lifo = Unit
 
 -- a front that was loaded: in a LIFO queue it is not past the logical front
 abbrev pub Reach : Flavour → ℕ → ℕ → Type 0
@@ -32,11 +32,11 @@ Reach lifo lo f = f ≤ lo
 
 -- a resize, with room for `need` more
 abbrev pub ResizeOk : ℕ → ResizeStage → Queue → Type 0
-ResizeOk need (resize-back c) q = (0 < c) × (q.back + need ≤ q.front + c)
-ResizeOk need (resize-front c b) q = (0 < c) × (q.back + need ≤ q.front + c) × (b ≡ q.back)
-ResizeOk need (resize-copy c b i cells) q =
+ResizeOk need (resize_back c) q = (0 < c) × (q.back + need ≤ q.front + c)
+ResizeOk need (resize_front c b) q = (0 < c) × (q.back + need ≤ q.front + c) × (b ≡ q.back)
+ResizeOk need (resize_copy c b i cells) q =
     (0 < c) × (q.back + need ≤ q.front + c) × (b ≡ q.back) × (i < b) × ((x : ℕ) → q.front ≤ x → x < i → cells (x % c) ≡ at q x)
-ResizeOk need (resize-swap c cells) q =
+ResizeOk need (resize_swap c cells) q =
     (0 < c) × (q.back + need ≤ q.front + c) × ((x : ℕ) → q.front ≤ x → x < q.back → cells (x % c) ≡ at q x)
 
 -- b is the back, and n more fit
@@ -44,78 +44,78 @@ abbrev pub Room : Queue → ℕ → ℕ → Type 0
 Room q b n = (b ≡ q.back) × (b + n ≤ q.front + cap q)
 
 abbrev pub PushOk : ℕ → PushStage → Queue → Type 0
-PushOk x push-back q = Unit
-PushOk x (push-front b) q = b ≡ q.back
-PushOk x (push-resize b z) q = (b ≡ q.back) × ResizeOk 1 z q
-PushOk x (push-write b) q = Room q b 1
-PushOk x (push-store b) q = Room q b 1 × (at q b ≡ x)
+PushOk x push_back q = Unit
+PushOk x (push_front b) q = b ≡ q.back
+PushOk x (push_resize b z) q = (b ≡ q.back) × ResizeOk 1 z q
+PushOk x (push_write b) q = Room q b 1
+PushOk x (push_store b) q = Room q b 1 × (at q b ≡ x)
 
 abbrev pub FifoOk : FifoPopStage → Queue → Type 0
-FifoOk fifo-back q = Unit
-FifoOk (fifo-front b) q = b ≡ q.back
-FifoOk (fifo-add b others) q = (b ≡ q.back) × (q.back ≤ q.front + suc others)
-FifoOk (fifo-restore f) q = (q.front ≡ suc f) × (f ≡ q.back)
-FifoOk (fifo-read f others) q = q.back ≤ q.front + suc others
+FifoOk fifo_back q = Unit
+FifoOk (fifo_front b) q = b ≡ q.back
+FifoOk (fifo_add b others) q = (b ≡ q.back) × (q.back ≤ q.front + suc others)
+FifoOk (fifo_restore f) q = (q.front ≡ suc f) × (f ≡ q.back)
+FifoOk (fifo_read f others) q = q.back ≤ q.front + suc others
 
 abbrev pub LifoOk : LifoPopStage → Queue → Type 0
-LifoOk lifo-back q = Unit
-LifoOk (lifo-front b) q = b ≡ q.back
-LifoOk (lifo-store b) q = (b ≡ q.back) × (0 < b)
-LifoOk (lifo-reload b) q = suc q.back ≡ b
-LifoOk (lifo-restore b) q = (suc q.back ≡ b) × (q.front ≡ b)
-LifoOk (lifo-last b) q = (suc q.back ≡ b) × (q.back ≤ q.front)
-LifoOk (lifo-exchange b v) q = (suc q.back ≡ b) × (q.back ≤ q.front) × (q.front ≡ q.back → v ≡ at q q.back)
-LifoOk (lifo-won b v) q = (suc q.back ≡ b) × (q.front ≡ b)
-LifoOk (lifo-read b others) q = (suc q.back ≡ b) × (q.back ≤ q.front + suc others)
+LifoOk lifo_back q = Unit
+LifoOk (lifo_front b) q = b ≡ q.back
+LifoOk (lifo_store b) q = (b ≡ q.back) × (0 < b)
+LifoOk (lifo_reload b) q = suc q.back ≡ b
+LifoOk (lifo_restore b) q = (suc q.back ≡ b) × (q.front ≡ b)
+LifoOk (lifo_last b) q = (suc q.back ≡ b) × (q.back ≤ q.front)
+LifoOk (lifo_exchange b v) q = (suc q.back ≡ b) × (q.back ≤ q.front) × (q.front ≡ q.back → v ≡ at q q.back)
+LifoOk (lifo_won b v) q = (suc q.back ≡ b) × (q.front ≡ b)
+LifoOk (lifo_read b others) q = (suc q.back ≡ b) × (q.back ≤ q.front + suc others)
 
 abbrev pub HaulOk : Haul → Queue → Type 0
 HaulOk h q = Room q h.b h.n
 
 abbrev pub OwnOk : OwnStage → Queue → Type 0
-OwnOk (reserve-back w) q = Unit
-OwnOk (reserve-front w b) q = b ≡ q.back
-OwnOk (reserve-resize w z) q = ResizeOk w.n z q
+OwnOk (reserve_back w) q = Unit
+OwnOk (reserve_front w b) q = b ≡ q.back
+OwnOk (reserve_resize w z) q = ResizeOk w.n z q
 OwnOk (own_back w) q = q.back + w.n ≤ q.front + cap q
-OwnOk (all-write h i v) q = HaulOk h q × (i < h.n)
-OwnOk (one-write h i v) q = HaulOk h q × (i < h.n)
-OwnOk (swap-near h x) q = HaulOk h q × (suc (x + x) < h.n)
-OwnOk (swap-far h x near) q = HaulOk h q × (suc (x + x) < h.n) × (near ≡ at q (h.b + x))
-OwnOk (swap-put h x near far) q =
+OwnOk (all_write h i v) q = HaulOk h q × (i < h.n)
+OwnOk (one_write h i v) q = HaulOk h q × (i < h.n)
+OwnOk (swap_near h x) q = HaulOk h q × (suc (x + x) < h.n)
+OwnOk (swap_far h x near) q = HaulOk h q × (suc (x + x) < h.n) × (near ≡ at q (h.b + x))
+OwnOk (swap_put h x near far) q =
     HaulOk h q × (suc (x + x) < h.n) × (near ≡ at q (h.b + x)) × (far ≡ at q (h.b + (h.n - suc x)))
-OwnOk (swap-last h x near) q = HaulOk h q × (suc (x + x) < h.n)
-OwnOk (own-store h) q = HaulOk h q
+OwnOk (swap_last h x near) q = HaulOk h q × (suc (x + x) < h.n)
+OwnOk (own_store h) q = HaulOk h q
 
 abbrev pub SourceOk : SourceStage → Queue → Type 0
-SourceOk (source-front m others) q = Unit
-SourceOk (source-back m others f) q = Unit
-SourceOk (source-ring w b) q = Room q b w.n
+SourceOk (source_front m others) q = Unit
+SourceOk (source_back m others f) q = Unit
+SourceOk (source_ring w b) q = Room q b w.n
 SourceOk (source_first h) q = HaulOk h q
-SourceOk (all-copy h i) q = HaulOk h q × (i < h.n)
-SourceOk (all-reload h) q = HaulOk h q
-SourceOk (all-exchange h) q = HaulOk h q
-SourceOk (one-first h v) q = HaulOk h q
-SourceOk (one-back h i) q = HaulOk h q × (i < h.n)
-SourceOk (one-read h i) q = HaulOk h q × (i < h.n)
-SourceOk (one-reload h i v) q = HaulOk h q × (i < h.n)
-SourceOk (one-exchange h i v) q = HaulOk h q × (i < h.n)
+SourceOk (all_copy h i) q = HaulOk h q × (i < h.n)
+SourceOk (all_reload h) q = HaulOk h q
+SourceOk (all_exchange h) q = HaulOk h q
+SourceOk (one_first h v) q = HaulOk h q
+SourceOk (one_back h i) q = HaulOk h q × (i < h.n)
+SourceOk (one_read h i) q = HaulOk h q × (i < h.n)
+SourceOk (one_reload h i v) q = HaulOk h q × (i < h.n)
+SourceOk (one_exchange h i v) q = HaulOk h q × (i < h.n)
 
 abbrev pub StageOk : Flavour → Stage → Queue → Type 0
 StageOk fl idle q = Unit
 StageOk fl (push x p) q = PushOk x p q
-StageOk fl (fifoPop w p) q = isFifo fl × FifoOk p q
-StageOk fl (lifoPop w p) q = isLifo fl × LifoOk p q
+StageOk fl (fifo_pop w p) q = is_fifo fl × FifoOk p q
+StageOk fl (lifo_pop w p) q = is_lifo fl × LifoOk p q
 StageOk fl (shrink w v z) q = ResizeOk 0 z q
 StageOk fl (steal k p) q = Unit
 StageOk fl (len k p) q = Unit
-StageOk fl (ownBatch p) q = Unit
+StageOk fl (own_batch p) q = Unit
 StageOk fl (source k p) q = SourceOk p q
 StageOk fl (own k p) q = OwnOk p q
 
 pub record Ok (fl : Flavour) (s : Stage) (q : Queue) : Type 0 where
   pub order : lo s q ≤ hi s q
   pub fits : hi s q ≤ lo s q + cap q
-  pub some-cap : 0 < cap q
-  pub ring-top : q.ring < q.top
+  pub some_cap : 0 < cap q
+  pub ring_top : q.ring < q.top
   pub backs : q.back ≤ hi s q
   pub fronts : lo s q ≤ q.front
   pub exact : q.front < hi s q → lo s q ≡ q.front
@@ -140,8 +140,8 @@ pub record Ev (fl : Flavour) (v w : View) : Type 0 where
   pub stays : (f : ℕ) → Reach fl v.lo f → f < v.hi → f < w.hi
   pub keeps : (i : ℕ) → w.lo ≤ i → i < v.hi → i < w.hi → w.content i ≡ v.content i
   pub tops : v.top ≤ w.top
-  pub same-ring : (r : ℕ) → r < v.top → w.ring ≡ r → v.ring ≡ r
-  pub old-rings : (r i : ℕ) → r < v.top → w.lo ≤ i → i < v.hi → i < w.hi → w.cell r i ≡ v.cell r i
+  pub same_ring : (r : ℕ) → r < v.top → w.ring ≡ r → v.ring ≡ r
+  pub old_rings : (r i : ℕ) → r < v.top → w.lo ≤ i → i < v.hi → i < w.hi → w.cell r i ≡ v.cell r i
 
 -- ---- what a thief knows of its source
 
@@ -162,12 +162,12 @@ abbrev pub Has : View → ℕ → ℕ → Type 0
 Has v f x = v.lo ≤ f → x ≡ v.content f
 
 abbrev pub StealKnows : Flavour → StealStage → View → Type 0
-StealKnows fl steal-front v = Unit
-StealKnows fl (steal-back f) v = Reach fl v.lo f
-StealKnows fl (steal-ring f) v = Span fl v f 1
-StealKnows fl (steal-read r f) v = Span fl v f 1 × Ring v r f (wide fl 1)
-StealKnows fl (steal-reload r f x) v = Span fl v f 1 × Has v f x × (r < v.top)
-StealKnows fl (steal-exchange r f x) v = Span fl v f 1 × Has v f x × (r < v.top)
+StealKnows fl steal_front v = Unit
+StealKnows fl (steal_back f) v = Reach fl v.lo f
+StealKnows fl (steal_ring f) v = Span fl v f 1
+StealKnows fl (steal_read r f) v = Span fl v f 1 × Ring v r f (wide fl 1)
+StealKnows fl (steal_reload r f x) v = Span fl v f 1 × Has v f x × (r < v.top)
+StealKnows fl (steal_exchange r f x) v = Span fl v f 1 × Has v f x × (r < v.top)
 
 -- the own cells that take the first i of n
 abbrev pub part : Flavour → (ℕ → ℕ) → (n b i j : ℕ) → ℕ
@@ -177,52 +177,52 @@ part lifo mine n b i j = stand mine (b + (n - i)) (b + n) j
 -- the job in hand and the copies are the source's jobs from f on, unless f is already gone
 abbrev pub Copied : Flavour → (ℕ → ℕ) → View → Haul → (i : ℕ) → Type 0
 Copied fo mine v h i =
-    v.lo ≤ h.f → (j : ℕ) → handOf h.hand j + part fo mine h.n h.b i j ≡ stand v.content h.f (h.f + inHand h.hand + i) j
+    v.lo ≤ h.f → (j : ℕ) → hand_of h.hand j + part fo mine h.n h.b i j ≡ stand v.content h.f (h.f + in_hand h.hand + i) j
 
 -- all at once, i of n copied
 abbrev pub Bulk : Flavour → Flavour → (ℕ → ℕ) → View → Haul → (i : ℕ) → Type 0
-Bulk fs fo mine v h i = isFifo fs × Span fs v h.f (inHand h.hand + h.n) × (i ≤ h.n) × Copied fo mine v h i
+Bulk fs fo mine v h i = is_fifo fs × Span fs v h.f (in_hand h.hand + h.n) × (i ≤ h.n) × Copied fo mine v h i
 
 abbrev pub BulkRing : View → Haul → Type 0
-BulkRing v h = Ring v h.ring h.f (inHand h.hand + h.n)
+BulkRing v h = Ring v h.ring h.f (in_hand h.hand + h.n)
 
 -- one by one: before the test of back, and after it
 abbrev pub Before : Flavour → View → Haul → Type 0
-Before fs v h = isLifo fs × (h.f ≤ v.lo) × (h.ring < v.top)
+Before fs v h = is_lifo fs × (h.f ≤ v.lo) × (h.ring < v.top)
 
 abbrev pub Single : Flavour → View → Haul → Type 0
-Single fs v h = isLifo fs × Span fs v h.f 1 × (h.ring < v.top)
+Single fs v h = is_lifo fs × Span fs v h.f 1 × (h.ring < v.top)
 
 abbrev pub WantedSpan : Flavour → View → Wanted → Type 0
-WantedSpan fs v w = Span fs v w.f (toHand w.kind + w.n)
+WantedSpan fs v w = Span fs v w.f (to_hand w.kind + w.n)
 
 -- fs: the source's flavour; fo: the own one's; mine: the contents of the own queue
 abbrev pub OwnKnows : Flavour → Flavour → OwnStage → (ℕ → ℕ) → View → Type 0
-OwnKnows fs fo (reserve-back w) mine v = WantedSpan fs v w
-OwnKnows fs fo (reserve-front w b) mine v = WantedSpan fs v w
-OwnKnows fs fo (reserve-resize w z) mine v = WantedSpan fs v w
+OwnKnows fs fo (reserve_back w) mine v = WantedSpan fs v w
+OwnKnows fs fo (reserve_front w b) mine v = WantedSpan fs v w
+OwnKnows fs fo (reserve_resize w z) mine v = WantedSpan fs v w
 OwnKnows fs fo (own_back w) mine v = WantedSpan fs v w
-OwnKnows fs fo (all-write h i x) mine v = Bulk fs fo mine v h i × BulkRing v h × (i < h.n) × Has v (h.f + inHand h.hand + i) x
-OwnKnows fs fo (one-write h i x) mine v = Before fs v h
-OwnKnows fs fo (swap-near h x) mine v = h.ring < v.top
-OwnKnows fs fo (swap-far h x near) mine v = h.ring < v.top
-OwnKnows fs fo (swap-put h x near far) mine v = h.ring < v.top
-OwnKnows fs fo (swap-last h x near) mine v = h.ring < v.top
-OwnKnows fs fo (own-store h) mine v = h.ring < v.top
+OwnKnows fs fo (all_write h i x) mine v = Bulk fs fo mine v h i × BulkRing v h × (i < h.n) × Has v (h.f + in_hand h.hand + i) x
+OwnKnows fs fo (one_write h i x) mine v = Before fs v h
+OwnKnows fs fo (swap_near h x) mine v = h.ring < v.top
+OwnKnows fs fo (swap_far h x near) mine v = h.ring < v.top
+OwnKnows fs fo (swap_put h x near far) mine v = h.ring < v.top
+OwnKnows fs fo (swap_last h x near) mine v = h.ring < v.top
+OwnKnows fs fo (own_store h) mine v = h.ring < v.top
 
 abbrev pub SourceKnows : Flavour → Flavour → SourceStage → (ℕ → ℕ) → View → Type 0
-SourceKnows fs fo (source-front m others) mine v = Unit
-SourceKnows fs fo (source-back m others f) mine v = Reach fs v.lo f
-SourceKnows fs fo (source-ring w b) mine v = WantedSpan fs v w
+SourceKnows fs fo (source_front m others) mine v = Unit
+SourceKnows fs fo (source_back m others f) mine v = Reach fs v.lo f
+SourceKnows fs fo (source_ring w b) mine v = WantedSpan fs v w
 SourceKnows fs fo (source_first h) mine v = Span fs v h.f (suc h.n) × Ring v h.ring h.f (wide fs (suc h.n))
-SourceKnows fs fo (all-copy h i) mine v = Bulk fs fo mine v h i × BulkRing v h × (i < h.n)
-SourceKnows fs fo (all-reload h) mine v = Bulk fs fo mine v h h.n × (h.ring < v.top)
-SourceKnows fs fo (all-exchange h) mine v = Bulk fs fo mine v h h.n × (h.ring < v.top)
-SourceKnows fs fo (one-first h x) mine v = Single fs v h × Has v h.f x
-SourceKnows fs fo (one-back h i) mine v = Before fs v h
-SourceKnows fs fo (one-read h i) mine v = Single fs v h
-SourceKnows fs fo (one-reload h i x) mine v = Single fs v h × (v.ring ≡ h.ring → Has v h.f x)
-SourceKnows fs fo (one-exchange h i x) mine v = Single fs v h × Has v h.f x
+SourceKnows fs fo (all_copy h i) mine v = Bulk fs fo mine v h i × BulkRing v h × (i < h.n)
+SourceKnows fs fo (all_reload h) mine v = Bulk fs fo mine v h h.n × (h.ring < v.top)
+SourceKnows fs fo (all_exchange h) mine v = Bulk fs fo mine v h h.n × (h.ring < v.top)
+SourceKnows fs fo (one_first h x) mine v = Single fs v h × Has v h.f x
+SourceKnows fs fo (one_back h i) mine v = Before fs v h
+SourceKnows fs fo (one_read h i) mine v = Single fs v h
+SourceKnows fs fo (one_reload h i x) mine v = Single fs v h × (v.ring ≡ h.ring → Has v h.f x)
+SourceKnows fs fo (one_exchange h i x) mine v = Single fs v h × Has v h.f x
 
 -- a length: of the own queue it has loaded the back that is there
 abbrev pub LengthKnows : LengthStage → ℕ → Type 0
@@ -240,14 +240,14 @@ module _ (n : ℕ) (fl : ℕ → Flavour) where
   abbrev pub Aware : State → ℕ → Stage → Type 0
   Aware s t idle = Unit
   Aware s t (push x p) = Unit
-  Aware s t (fifoPop w p) = Unit
-  Aware s t (lifoPop w p) = Unit
+  Aware s t (fifo_pop w p) = Unit
+  Aware s t (lifo_pop w p) = Unit
   Aware s t (shrink w v z) = Unit
   Aware s t (steal k p) = (k < n) × StealKnows (fl k) p (seen s k)
-  Aware s t (len k p) = (k < n) × (k ≡ ownQueue t → LengthKnows p (s.queues k).back)
-  Aware s t (ownBatch p) = Unit
-  Aware s t (source k p) = (k < n) × (k ≡ ownQueue t → ⊥) × SourceKnows (fl k) (fl (ownQueue t)) p (at (s.queues (ownQueue t))) (seen s k)
-  Aware s t (own k p) = (k < n) × (k ≡ ownQueue t → ⊥) × OwnKnows (fl k) (fl (ownQueue t)) p (at (s.queues (ownQueue t))) (seen s k)
+  Aware s t (len k p) = (k < n) × (k ≡ own_queue t → LengthKnows p (s.queues k).back)
+  Aware s t (own_batch p) = Unit
+  Aware s t (source k p) = (k < n) × (k ≡ own_queue t → ⊥) × SourceKnows (fl k) (fl (own_queue t)) p (at (s.queues (own_queue t))) (seen s k)
+  Aware s t (own k p) = (k < n) × (k ≡ own_queue t → ⊥) × OwnKnows (fl k) (fl (own_queue t)) p (at (s.queues (own_queue t))) (seen s k)
 
   -- mem: what each thread last began to push
   pub record Inv (mem : ℕ → ℕ) (s : State) : Type 0 where
@@ -256,11 +256,11 @@ module _ (n : ℕ) (fl : ℕ → Flavour) where
     pub says : (t : ℕ) → t < n → Says (mem t) (s.stages t)
 
   -- in queue k and with its owner
-  abbrev pub amountAt : State → ℕ → ℕ → ℕ
-  amountAt s j k = amount (s.stages (owner k)) (s.queues k) j
+  abbrev pub amount_at : State → ℕ → ℕ → ℕ
+  amount_at s j k = amount (s.stages (owner k)) (s.queues k) j
 
   abbrev pub total : State → ℕ → ℕ
-  total s j = sum_to n (amountAt s j)
+  total s j = sum_to n (amount_at s j)
 
   -- what one call keeps. m: what the thread last began to push, before the call; mem: what each did, after it; s, s': the states; a: the answer
   pub record Kept (m : ℕ) (mem : ℕ → ℕ) (s s' : State) (a : Answer) : Type 0 where

@@ -2,111 +2,111 @@
 -- A ring is named by its queue and its number in it; a ring being built has the number that it will have.
 use Rattle.std.specs.Prelude.{◌≡◌, ◌⊎◌, ℕ, suc, ◌+◌, ◌-◌, ◌%◌, ◌<◌}
 use Rattle.model.specs.Count.{upd}
-use Rattle.model.specs.Stage.{Flavour, Queue, at, cap, setCell, swap, ResizeStage, resize-back, resize-front, resize-copy, resize-swap}
-use Rattle.model.specs.Stage.{PushStage, push-back, push-front, push-resize, push-write, push-store, own, StealStage, steal-front, steal-back}
-use Rattle.model.specs.Stage.{steal-ring, steal-read, steal-reload, steal-exchange, source, SourceStage, source-front, source-back, source-ring}
-use Rattle.model.specs.Stage.{source_first, all-copy, all-reload, all-exchange, one-first, one-back, one-read, one-reload, one-exchange}
-use Rattle.model.specs.Stage.{OwnStage, reserve-back, reserve-front, reserve-resize, own_back, all-write, one-write, swap-near, swap-far}
-use Rattle.model.specs.Stage.{swap-put, swap-last, own-store, Stage, idle, push, fifoPop, lifoPop, shrink, steal, len, ownBatch}
+use Rattle.model.specs.Stage.{Flavour, Queue, at, cap, set_cell, swap, ResizeStage, resize_back, resize_front, resize_copy, resize_swap}
+use Rattle.model.specs.Stage.{PushStage, push_back, push_front, push_resize, push_write, push_store, own, StealStage, steal_front, steal_back}
+use Rattle.model.specs.Stage.{steal_ring, steal_read, steal_reload, steal_exchange, source, SourceStage, source_front, source_back, source_ring}
+use Rattle.model.specs.Stage.{source_first, all_copy, all_reload, all_exchange, one_first, one_back, one_read, one_reload, one_exchange}
+use Rattle.model.specs.Stage.{OwnStage, reserve_back, reserve_front, reserve_resize, own_back, all_write, one_write, swap_near, swap_far}
+use Rattle.model.specs.Stage.{swap_put, swap_last, own_store, Stage, idle, push, fifo_pop, lifo_pop, shrink, steal, len, own_batch}
 use Rattle.model.specs.Tables.{Claim, lost, got, slot}
 use Rattle.model.specs.Machine.{owner, State}
 
 -- ---- which ring of its source a stage holds
 
 abbrev pub StealHolds : StealStage → ℕ → Type 0
-StealHolds steal-front r = ⊥
-StealHolds (steal-back f) r = ⊥
-StealHolds (steal-ring f) r = ⊥
-StealHolds (steal-read i f) r = r ≡ i
-StealHolds (steal-reload i f v) r = r ≡ i
-StealHolds (steal-exchange i f v) r = r ≡ i
+StealHolds steal_front r = ⊥
+StealHolds (steal_back f) r = ⊥
+StealHolds (steal_ring f) r = ⊥
+StealHolds (steal_read i f) r = r ≡ i
+StealHolds (steal_reload i f v) r = r ≡ i
+StealHolds (steal_exchange i f v) r = r ≡ i
 
 abbrev pub OwnHolds : OwnStage → ℕ → Type 0
-OwnHolds (reserve-back w) r = ⊥
-OwnHolds (reserve-front w b) r = ⊥
-OwnHolds (reserve-resize w z) r = ⊥
+OwnHolds (reserve_back w) r = ⊥
+OwnHolds (reserve_front w b) r = ⊥
+OwnHolds (reserve_resize w z) r = ⊥
 OwnHolds (own_back w) r = ⊥
-OwnHolds (all-write h i v) r = r ≡ h.ring
-OwnHolds (one-write h i v) r = r ≡ h.ring
-OwnHolds (swap-near h x) r = r ≡ h.ring
-OwnHolds (swap-far h x near) r = r ≡ h.ring
-OwnHolds (swap-put h x near far) r = r ≡ h.ring
-OwnHolds (swap-last h x near) r = r ≡ h.ring
-OwnHolds (own-store h) r = r ≡ h.ring
+OwnHolds (all_write h i v) r = r ≡ h.ring
+OwnHolds (one_write h i v) r = r ≡ h.ring
+OwnHolds (swap_near h x) r = r ≡ h.ring
+OwnHolds (swap_far h x near) r = r ≡ h.ring
+OwnHolds (swap_put h x near far) r = r ≡ h.ring
+OwnHolds (swap_last h x near) r = r ≡ h.ring
+OwnHolds (own_store h) r = r ≡ h.ring
 
 abbrev pub SourceHolds : SourceStage → ℕ → Type 0
-SourceHolds (source-front m others) r = ⊥
-SourceHolds (source-back m others f) r = ⊥
-SourceHolds (source-ring w b) r = ⊥
+SourceHolds (source_front m others) r = ⊥
+SourceHolds (source_back m others f) r = ⊥
+SourceHolds (source_ring w b) r = ⊥
 SourceHolds (source_first h) r = r ≡ h.ring
-SourceHolds (all-copy h i) r = r ≡ h.ring
-SourceHolds (all-reload h) r = r ≡ h.ring
-SourceHolds (all-exchange h) r = r ≡ h.ring
-SourceHolds (one-first h v) r = r ≡ h.ring
-SourceHolds (one-back h i) r = r ≡ h.ring
-SourceHolds (one-read h i) r = r ≡ h.ring
-SourceHolds (one-reload h i v) r = r ≡ h.ring
-SourceHolds (one-exchange h i v) r = r ≡ h.ring
+SourceHolds (all_copy h i) r = r ≡ h.ring
+SourceHolds (all_reload h) r = r ≡ h.ring
+SourceHolds (all_exchange h) r = r ≡ h.ring
+SourceHolds (one_first h v) r = r ≡ h.ring
+SourceHolds (one_back h i) r = r ≡ h.ring
+SourceHolds (one_read h i) r = r ≡ h.ring
+SourceHolds (one_reload h i v) r = r ≡ h.ring
+SourceHolds (one_exchange h i v) r = r ≡ h.ring
 
 -- ring r of queue k
 abbrev pub Holds : Stage → ℕ → ℕ → Type 0
 Holds idle k r = ⊥
 Holds (push x p) k r = ⊥
-Holds (fifoPop w p) k r = ⊥
-Holds (lifoPop w p) k r = ⊥
+Holds (fifo_pop w p) k r = ⊥
+Holds (lifo_pop w p) k r = ⊥
 Holds (shrink w v z) k r = ⊥
 Holds (steal i p) k r = (k ≡ i) × StealHolds p r
 Holds (len i p) k r = ⊥
-Holds (ownBatch p) k r = ⊥
+Holds (own_batch p) k r = ⊥
 Holds (source i p) k r = (k ≡ i) × SourceHolds p r
 Holds (own i p) k r = (k ≡ i) × OwnHolds p r
 
 -- ---- the ring that a stage builds: its capacity and its cells
 
 pub data Building : Type 0 where
-  not-building : Building
+  not_building : Building
   building : (c : ℕ) → (ℕ → ℕ) → Building
 
-abbrev pub buildsResize : ResizeStage → Building
-buildsResize (resize-back c) = not-building
-buildsResize (resize-front c b) = not-building
-buildsResize (resize-copy c b i f) = building c f
-buildsResize (resize-swap c f) = building c f
+abbrev pub builds_resize : ResizeStage → Building
+builds_resize (resize_back c) = not_building
+builds_resize (resize_front c b) = not_building
+builds_resize (resize_copy c b i f) = building c f
+builds_resize (resize_swap c f) = building c f
 
-abbrev pub buildsPush : PushStage → Building
-buildsPush push-back = not-building
-buildsPush (push-front b) = not-building
-buildsPush (push-resize b z) = buildsResize z
-buildsPush (push-write b) = not-building
-buildsPush (push-store b) = not-building
+abbrev pub builds_push : PushStage → Building
+builds_push push_back = not_building
+builds_push (push_front b) = not_building
+builds_push (push_resize b z) = builds_resize z
+builds_push (push_write b) = not_building
+builds_push (push_store b) = not_building
 
-abbrev pub buildsOwn : OwnStage → Building
-buildsOwn (reserve-back w) = not-building
-buildsOwn (reserve-front w b) = not-building
-buildsOwn (reserve-resize w z) = buildsResize z
-buildsOwn (own_back w) = not-building
-buildsOwn (all-write h i v) = not-building
-buildsOwn (one-write h i v) = not-building
-buildsOwn (swap-near h x) = not-building
-buildsOwn (swap-far h x near) = not-building
-buildsOwn (swap-put h x near far) = not-building
-buildsOwn (swap-last h x near) = not-building
-buildsOwn (own-store h) = not-building
+abbrev pub builds_own : OwnStage → Building
+builds_own (reserve_back w) = not_building
+builds_own (reserve_front w b) = not_building
+builds_own (reserve_resize w z) = builds_resize z
+builds_own (own_back w) = not_building
+builds_own (all_write h i v) = not_building
+builds_own (one_write h i v) = not_building
+builds_own (swap_near h x) = not_building
+builds_own (swap_far h x near) = not_building
+builds_own (swap_put h x near far) = not_building
+builds_own (swap_last h x near) = not_building
+builds_own (own_store h) = not_building
 
 abbrev pub builds : Stage → Building
-builds idle = not-building
-builds (push x p) = buildsPush p
-builds (fifoPop w p) = not-building
-builds (lifoPop w p) = not-building
-builds (shrink w v z) = buildsResize z
-builds (steal i p) = not-building
-builds (len i p) = not-building
-builds (ownBatch p) = not-building
-builds (source i p) = not-building
-builds (own i p) = buildsOwn p
+builds idle = not_building
+builds (push x p) = builds_push p
+builds (fifo_pop w p) = not_building
+builds (lifo_pop w p) = not_building
+builds (shrink w v z) = builds_resize z
+builds (steal i p) = not_building
+builds (len i p) = not_building
+builds (own_batch p) = not_building
+builds (source i p) = not_building
+builds (own i p) = builds_own p
 
 abbrev pub cells_of : Building → ℕ → ℕ
-cells_of not-building x = 0
+cells_of not_building x = 0
 cells_of (building c f) x = f x
 
 -- ---- what a step does to cells
@@ -119,58 +119,58 @@ pub data Note : Type 0 where
   claims : Note
   swaps : Note
 
-abbrev pub noteClaim : Claim → Note
-noteClaim lost = kept
-noteClaim (got f) = claims
+abbrev pub note_claim : Claim → Note
+note_claim lost = kept
+note_claim (got f) = claims
 
-abbrev pub noteResize : Claim → ResizeStage → Note
-noteResize g (resize-back c) = kept
-noteResize g (resize-front c b) = noteClaim g
-noteResize g (resize-copy c b i f) = copied i
-noteResize g (resize-swap c f) = swaps
+abbrev pub note_resize : Claim → ResizeStage → Note
+note_resize g (resize_back c) = kept
+note_resize g (resize_front c b) = note_claim g
+note_resize g (resize_copy c b i f) = copied i
+note_resize g (resize_swap c f) = swaps
 
-abbrev pub notePush : Claim → ℕ → PushStage → Note
-notePush g x push-back = kept
-notePush g x (push-front b) = kept
-notePush g x (push-resize b z) = noteResize g z
-notePush g x (push-write b) = wrote b x
-notePush g x (push-store b) = kept
+abbrev pub note_push : Claim → ℕ → PushStage → Note
+note_push g x push_back = kept
+note_push g x (push_front b) = kept
+note_push g x (push_resize b z) = note_resize g z
+note_push g x (push_write b) = wrote b x
+note_push g x (push_store b) = kept
 
-abbrev pub noteOwn : Claim → Flavour → OwnStage → Note
-noteOwn g fo (reserve-back w) = kept
-noteOwn g fo (reserve-front w b) = kept
-noteOwn g fo (reserve-resize w z) = noteResize g z
-noteOwn g fo (own_back w) = kept
-noteOwn g fo (all-write h i v) = wrote (slot fo h i) v
-noteOwn g fo (one-write h i v) = wrote (h.b + i) v
-noteOwn g fo (swap-near h x) = kept
-noteOwn g fo (swap-far h x near) = kept
-noteOwn g fo (swap-put h x near far) = wrote (h.b + x) far
-noteOwn g fo (swap-last h x near) = wrote (h.b + (h.n - suc x)) near
-noteOwn g fo (own-store h) = kept
+abbrev pub note_own : Claim → Flavour → OwnStage → Note
+note_own g fo (reserve_back w) = kept
+note_own g fo (reserve_front w b) = kept
+note_own g fo (reserve_resize w z) = note_resize g z
+note_own g fo (own_back w) = kept
+note_own g fo (all_write h i v) = wrote (slot fo h i) v
+note_own g fo (one_write h i v) = wrote (h.b + i) v
+note_own g fo (swap_near h x) = kept
+note_own g fo (swap_far h x near) = kept
+note_own g fo (swap_put h x near far) = wrote (h.b + x) far
+note_own g fo (swap_last h x near) = wrote (h.b + (h.n - suc x)) near
+note_own g fo (own_store h) = kept
 
 -- fo: the flavour of the own queue
 abbrev pub note : Claim → Flavour → Stage → Note
 note g fo idle = kept
-note g fo (push x p) = notePush g x p
-note g fo (fifoPop w p) = kept
-note g fo (lifoPop w p) = kept
-note g fo (shrink w v z) = noteResize g z
+note g fo (push x p) = note_push g x p
+note g fo (fifo_pop w p) = kept
+note g fo (lifo_pop w p) = kept
+note g fo (shrink w v z) = note_resize g z
 note g fo (steal k p) = kept
 note g fo (len k p) = kept
-note g fo (ownBatch p) = kept
+note g fo (own_batch p) = kept
 note g fo (source k p) = kept
-note g fo (own k p) = noteOwn g fo p
+note g fo (own k p) = note_own g fo p
 
 -- thread t's step, on queue k, from q to r, with the ring that it built and builds
 abbrev pub Effect : Note → (t k : ℕ) → Claim → Building → Queue → Building → Queue → Type 0
 Effect kept t k g was q is r =
-    (r.rings ≡ q.rings) × (r.caps ≡ q.caps) × (r.ring ≡ q.ring) × (r.top ≡ q.top) × ((is ≡ was) ⊎ (is ≡ not-building))
-Effect (wrote i v) t k g was q is r = (k ≡ t) × (r ≡ setCell q i v) × (was ≡ not-building) × (is ≡ not-building)
+    (r.rings ≡ q.rings) × (r.caps ≡ q.caps) × (r.ring ≡ q.ring) × (r.top ≡ q.top) × ((is ≡ was) ⊎ (is ≡ not_building))
+Effect (wrote i v) t k g was q is r = (k ≡ t) × (r ≡ set_cell q i v) × (was ≡ not_building) × (is ≡ not_building)
 Effect (copied i) t k g was q is r =
     (k ≡ t) × (r ≡ q) × ((c : ℕ) × (f : ℕ → ℕ) × (was ≡ building c f) × (is ≡ building c (upd f (i % c) (at q i))))
-Effect claims t k g was q is r = (k ≡ t) × (r ≡ q) × (was ≡ not-building) × ((c : ℕ) × (f : ℕ → ℕ) × (g ≡ got f) × (is ≡ building c f))
-Effect swaps t k g was q is r = (k ≡ t) × (is ≡ not-building) × ((c : ℕ) × (f : ℕ → ℕ) × (was ≡ building c f) × (r ≡ swap q c f))
+Effect claims t k g was q is r = (k ≡ t) × (r ≡ q) × (was ≡ not_building) × ((c : ℕ) × (f : ℕ → ℕ) × (g ≡ got f) × (is ≡ building c f))
+Effect swaps t k g was q is r = (k ≡ t) × (is ≡ not_building) × ((c : ℕ) × (f : ℕ → ℕ) × (was ≡ building c f) × (r ≡ swap q c f))
 
 -- ---- live rings
 
@@ -181,7 +181,7 @@ module _ (n : ℕ) where
 
   -- queue k's owner builds ring r
   abbrev pub Built : State → ℕ → ℕ → Type 0
-  Built s k r = (r ≡ (s.queues k).top) × (builds (s.stages (owner k)) ≡ not-building → ⊥)
+  Built s k r = (r ≡ (s.queues k).top) × (builds (s.stages (owner k)) ≡ not_building → ⊥)
 
   abbrev pub Live : State → ℕ → ℕ → Type 0
   Live s k r = (k < n) × ((r ≡ (s.queues k).ring) ⊎ Held s k r ⊎ Built s k r)

@@ -27,14 +27,14 @@ at q i = cell q q.ring i
 abbrev pub cap : Queue → ℕ
 cap q = q.caps q.ring
 
-abbrev pub setFront : Queue → ℕ → Queue
-setFront q v = record { front = v; back = q.back; ring = q.ring; top = q.top; rings = q.rings; caps = q.caps }
+abbrev pub set_front : Queue → ℕ → Queue
+set_front q v = record { front = v; back = q.back; ring = q.ring; top = q.top; rings = q.rings; caps = q.caps }
 
-abbrev pub setBack : Queue → ℕ → Queue
-setBack q v = record { front = q.front; back = v; ring = q.ring; top = q.top; rings = q.rings; caps = q.caps }
+abbrev pub set_back : Queue → ℕ → Queue
+set_back q v = record { front = q.front; back = v; ring = q.ring; top = q.top; rings = q.rings; caps = q.caps }
 
-abbrev pub setCell : Queue → ℕ → ℕ → Queue
-setCell q i v = record {
+abbrev pub set_cell : Queue → ℕ → ℕ → Queue
+set_cell q i v = record {
   front = q.front;
   back = q.back;
   ring = q.ring;
@@ -58,49 +58,49 @@ swap q c cells = record {
 
 -- to a capacity c; from the claim on with the new ring's cells
 pub data ResizeStage : Type 0 where
-  resize-back : (c : ℕ) → ResizeStage
-  resize-front : (c b : ℕ) → ResizeStage
-  resize-copy : (c b i : ℕ) → (ℕ → ℕ) → ResizeStage
-  resize-swap : (c : ℕ) → (ℕ → ℕ) → ResizeStage
+  resize_back : (c : ℕ) → ResizeStage
+  resize_front : (c b : ℕ) → ResizeStage
+  resize_copy : (c b i : ℕ) → (ℕ → ℕ) → ResizeStage
+  resize_swap : (c : ℕ) → (ℕ → ℕ) → ResizeStage
 
 pub data PushStage : Type 0 where
-  push-back : PushStage
-  push-front : (b : ℕ) → PushStage
-  push-resize : (b : ℕ) → ResizeStage → PushStage
-  push-write : (b : ℕ) → PushStage
-  push-store : (b : ℕ) → PushStage
+  push_back : PushStage
+  push_front : (b : ℕ) → PushStage
+  push_resize : (b : ℕ) → ResizeStage → PushStage
+  push_write : (b : ℕ) → PushStage
+  push_store : (b : ℕ) → PushStage
 
 -- others: the difference first seen, less one
 pub data FifoPopStage : Type 0 where
-  fifo-back : FifoPopStage
-  fifo-front : (b : ℕ) → FifoPopStage
-  fifo-add : (b others : ℕ) → FifoPopStage
-  fifo-restore : (f : ℕ) → FifoPopStage
-  fifo-read : (f others : ℕ) → FifoPopStage
+  fifo_back : FifoPopStage
+  fifo_front : (b : ℕ) → FifoPopStage
+  fifo_add : (b others : ℕ) → FifoPopStage
+  fifo_restore : (f : ℕ) → FifoPopStage
+  fifo_read : (f others : ℕ) → FifoPopStage
 
 -- others: the difference b - 1 - f, less one; the last job is at b - 1
 pub data LifoPopStage : Type 0 where
-  lifo-back : LifoPopStage
-  lifo-front : (b : ℕ) → LifoPopStage
-  lifo-store : (b : ℕ) → LifoPopStage
-  lifo-reload : (b : ℕ) → LifoPopStage
-  lifo-restore : (b : ℕ) → LifoPopStage
-  lifo-last : (b : ℕ) → LifoPopStage
-  lifo-exchange : (b job : ℕ) → LifoPopStage
-  lifo-won : (b job : ℕ) → LifoPopStage
-  lifo-read : (b others : ℕ) → LifoPopStage
+  lifo_back : LifoPopStage
+  lifo_front : (b : ℕ) → LifoPopStage
+  lifo_store : (b : ℕ) → LifoPopStage
+  lifo_reload : (b : ℕ) → LifoPopStage
+  lifo_restore : (b : ℕ) → LifoPopStage
+  lifo_last : (b : ℕ) → LifoPopStage
+  lifo_exchange : (b job : ℕ) → LifoPopStage
+  lifo_won : (b job : ℕ) → LifoPopStage
+  lifo_read : (b others : ℕ) → LifoPopStage
 
 -- who pops: a pop, or a batch and pop from the own queue
 pub data Popper : Type 0 where
   byPop byBatch : Popper
 
 pub data StealStage : Type 0 where
-  steal-front : StealStage
-  steal-back : (f : ℕ) → StealStage
-  steal-ring : (f : ℕ) → StealStage
-  steal-read : (r f : ℕ) → StealStage
-  steal-reload : (r f job : ℕ) → StealStage
-  steal-exchange : (r f job : ℕ) → StealStage
+  steal_front : StealStage
+  steal_back : (f : ℕ) → StealStage
+  steal_ring : (f : ℕ) → StealStage
+  steal_read : (r f : ℕ) → StealStage
+  steal_reload : (r f job : ℕ) → StealStage
+  steal_exchange : (r f job : ℕ) → StealStage
 
 pub data LengthStage : Type 0 where
   length_back : LengthStage
@@ -130,43 +130,43 @@ pub record Haul : Type 0 where
 
 -- the steps of a batch on its source: all at once from a FIFO queue, one by one from a LIFO queue. others: the limit less one
 pub data SourceStage : Type 0 where
-  source-front : (kind : BatchKind) (others : ℕ) → SourceStage
-  source-back : (kind : BatchKind) (others f : ℕ) → SourceStage
-  source-ring : (w : Wanted) (b : ℕ) → SourceStage
+  source_front : (kind : BatchKind) (others : ℕ) → SourceStage
+  source_back : (kind : BatchKind) (others f : ℕ) → SourceStage
+  source_ring : (w : Wanted) (b : ℕ) → SourceStage
   source_first : (h : Haul) → SourceStage
-  all-copy : (h : Haul) (i : ℕ) → SourceStage
-  all-reload : (h : Haul) → SourceStage
-  all-exchange : (h : Haul) → SourceStage
-  one-first : (h : Haul) (job : ℕ) → SourceStage
-  one-back : (h : Haul) (i : ℕ) → SourceStage
-  one-read : (h : Haul) (i : ℕ) → SourceStage
-  one-reload : (h : Haul) (i job : ℕ) → SourceStage
-  one-exchange : (h : Haul) (i job : ℕ) → SourceStage
+  all_copy : (h : Haul) (i : ℕ) → SourceStage
+  all_reload : (h : Haul) → SourceStage
+  all_exchange : (h : Haul) → SourceStage
+  one_first : (h : Haul) (job : ℕ) → SourceStage
+  one_back : (h : Haul) (i : ℕ) → SourceStage
+  one_read : (h : Haul) (i : ℕ) → SourceStage
+  one_reload : (h : Haul) (i job : ℕ) → SourceStage
+  one_exchange : (h : Haul) (i job : ℕ) → SourceStage
 
 -- the steps of a batch on the thread's own queue: reserve, writes, reversal, store
 pub data OwnStage : Type 0 where
-  reserve-back : (w : Wanted) → OwnStage
-  reserve-front : (w : Wanted) (b : ℕ) → OwnStage
-  reserve-resize : (w : Wanted) → ResizeStage → OwnStage
+  reserve_back : (w : Wanted) → OwnStage
+  reserve_front : (w : Wanted) (b : ℕ) → OwnStage
+  reserve_resize : (w : Wanted) → ResizeStage → OwnStage
   own_back : (w : Wanted) → OwnStage
-  all-write : (h : Haul) (i job : ℕ) → OwnStage
-  one-write : (h : Haul) (i job : ℕ) → OwnStage
-  swap-near : (h : Haul) (x : ℕ) → OwnStage
-  swap-far : (h : Haul) (x near : ℕ) → OwnStage
-  swap-put : (h : Haul) (x near far : ℕ) → OwnStage
-  swap-last : (h : Haul) (x near : ℕ) → OwnStage
-  own-store : (h : Haul) → OwnStage
+  all_write : (h : Haul) (i job : ℕ) → OwnStage
+  one_write : (h : Haul) (i job : ℕ) → OwnStage
+  swap_near : (h : Haul) (x : ℕ) → OwnStage
+  swap_far : (h : Haul) (x near : ℕ) → OwnStage
+  swap_put : (h : Haul) (x near far : ℕ) → OwnStage
+  swap_last : (h : Haul) (x near : ℕ) → OwnStage
+  own_store : (h : Haul) → OwnStage
 
 -- of a steal, a length and a batch the first number is the queue that it names
 pub data Stage : Type 0 where
   idle : Stage
   push : (job : ℕ) → PushStage → Stage
-  fifoPop : Popper → FifoPopStage → Stage
-  lifoPop : Popper → LifoPopStage → Stage
+  fifo_pop : Popper → FifoPopStage → Stage
+  lifo_pop : Popper → LifoPopStage → Stage
   shrink : Popper → (job : ℕ) → ResizeStage → Stage
   steal : (k : ℕ) → StealStage → Stage
   len : (k : ℕ) → LengthStage → Stage
-  ownBatch : LengthStage → Stage
+  own_batch : LengthStage → Stage
   source : (k : ℕ) → SourceStage → Stage
   own : (k : ℕ) → OwnStage → Stage
 
@@ -181,9 +181,9 @@ pub data Answer : Type 0 where
   success : ℕ → Answer
   retry : Answer
   moved : Answer
-  twoNumbers : (b f : ℕ) → Answer
-  tooLarge : Answer
-  noRing : Answer
+  two_numbers : (b f : ℕ) → Answer
+  too_large : Answer
+  no_ring : Answer
 
 -- what a step leaves: the one queue that it touched, the thread's stage, the answer
 pub record Out : Type 0 where

@@ -2,51 +2,51 @@
 use Rattle.std.specs.Prelude.{ℕ, ◌+◌, ◌-◌, ◌/◌, ◌%◌, ◌^◌, min, Bool, true, false, ◌&&◌, ◌==◌, nat_le}
 use Rattle.base.specs.Tests.{pick}
 use Rattle.index.specs.declared.Index.{Index}
-use Rattle.index.specs.Index.{plusOf, minusOf}
+use Rattle.index.specs.Index.{plus_of, minus_of}
 use Rattle.ring.specs.declared.Ring.{Ring}
 use Rattle.steal.specs.declared.Steal.TheVariants.{Success, Retry}
-use Rattle.std.specs.declared.queue.Flavor.{Flavor}
-use Rattle.std.specs.declared.queue.Flavor.TheVariants.{Fifo, Lifo}
-use Rattle.std.specs.declared.queue.Queue.{Queue}
-use Rattle.std.specs.declared.stage.BatchKind.{BatchKind}
-use Rattle.std.specs.declared.stage.BatchKind.TheVariants.{Batch, BatchAndPop}
-use Rattle.std.specs.declared.stage.InHand.{InHand}
-use Rattle.std.specs.declared.stage.InHand.TheVariants.{Nothing, Job}
-use Rattle.std.specs.declared.stage.Wanted.{Wanted}
-use Rattle.std.specs.declared.stage.Haul.{Haul}
-use Rattle.std.specs.declared.stage.AllStage.TheVariants as A
-use Rattle.std.specs.declared.stage.OneStage.TheVariants as E
-use Rattle.std.specs.declared.stage.TakeStage.{TakeStage}
-use Rattle.std.specs.declared.stage.TakeStage.TheVariants.{All, One}
-use Rattle.std.specs.declared.stage.ReserveStage.{ReserveStage}
-use Rattle.std.specs.declared.stage.ReserveStage.TheVariants as Y
-use Rattle.std.specs.declared.stage.SwapStage.TheVariants as X
-use Rattle.std.specs.declared.stage.PutStage.{PutStage}
-use Rattle.std.specs.declared.stage.PutStage.TheVariants as W
-use Rattle.std.specs.declared.stage.SourceStage.TheVariants as S
-use Rattle.std.specs.declared.stage.OwnStage.{OwnStage}
-use Rattle.std.specs.declared.stage.OwnStage.TheVariants as O
-use Rattle.std.specs.declared.answer.Answer.{Answer}
-use Rattle.std.specs.declared.answer.Answer.TheVariants.{Stolen, Moved}
+use Rattle.parts.specs.declared.queue.Flavor.{Flavor}
+use Rattle.parts.specs.declared.queue.Flavor.TheVariants.{Fifo, Lifo}
+use Rattle.parts.specs.declared.queue.Queue.{Queue}
+use Rattle.parts.specs.declared.stage.BatchKind.{BatchKind}
+use Rattle.parts.specs.declared.stage.BatchKind.TheVariants.{Batch, BatchAndPop}
+use Rattle.parts.specs.declared.stage.InHand.{InHand}
+use Rattle.parts.specs.declared.stage.InHand.TheVariants.{Nothing, Job}
+use Rattle.parts.specs.declared.stage.Wanted.{Wanted}
+use Rattle.parts.specs.declared.stage.Haul.{Haul}
+use Rattle.parts.specs.declared.stage.AllStage.TheVariants as A
+use Rattle.parts.specs.declared.stage.OneStage.TheVariants as E
+use Rattle.parts.specs.declared.stage.TakeStage.{TakeStage}
+use Rattle.parts.specs.declared.stage.TakeStage.TheVariants.{All, One}
+use Rattle.parts.specs.declared.stage.ReserveStage.{ReserveStage}
+use Rattle.parts.specs.declared.stage.ReserveStage.TheVariants as Y
+use Rattle.parts.specs.declared.stage.SwapStage.TheVariants as X
+use Rattle.parts.specs.declared.stage.PutStage.{PutStage}
+use Rattle.parts.specs.declared.stage.PutStage.TheVariants as W
+use Rattle.parts.specs.declared.stage.SourceStage.TheVariants as S
+use Rattle.parts.specs.declared.stage.OwnStage.{OwnStage}
+use Rattle.parts.specs.declared.stage.OwnStage.TheVariants as O
+use Rattle.parts.specs.declared.answer.Answer.{Answer}
+use Rattle.parts.specs.declared.answer.Answer.TheVariants.{Stolen, Moved}
 use Rattle.op_batch.specs.declared.BatchOut.{BatchOut}
 use Rattle.op_batch.specs.declared.BatchOut.TheVariants.{Source, Own, Ended}
 use Rattle.op_batch.specs.declared.Further.{Further}
 use Rattle.op_batch.specs.declared.Further.TheVariants.{Next, Over}
 
 -- on to a stage of a part of the batch
-abbrev pub takeAt : Queue → Haul → TakeStage → BatchOut
-takeAt q h at = Source q (S.Take h at)
+abbrev pub take_at : Queue → Haul → TakeStage → BatchOut
+take_at q h at = Source q (S.Take h at)
 
 abbrev pub put_at : Queue → Haul → PutStage → BatchOut
 put_at q h at = Own q (O.Put h at)
 
-abbrev pub reserveAt : Queue → Wanted → ReserveStage → BatchOut
-reserveAt q w at = Own q (O.Reserve w at)
+abbrev pub reserve_at : Queue → Wanted → ReserveStage → BatchOut
+reserve_at q w at = Own q (O.Reserve w at)
 
 -- n, of a difference d and a limit, which is others + 1: n = min((d + 1) / 2, limit); of a batch and pop min((d - 1) / 2, limit - 1)
-abbrev pub wantedOf : BatchKind → ℕ → ℕ → ℕ
-wantedOf Batch d others = min ((d + 1) / 2) (others + 1)
-wantedOf BatchAndPop d others = min ((d - 1) / 2) others
+abbrev pub wanted_of : BatchKind → ℕ → ℕ → ℕ
+wanted_of Batch d others = min ((d + 1) / 2) (others + 1)
+wanted_of BatchAndPop d others = min ((d - 1) / 2) others
 
 -- reserve n in the own queue, if n > 0
 abbrev pub reserving : Wanted → OwnStage
@@ -55,15 +55,15 @@ reserving w = pick (w.n == 0) (O.LoadBack w) (O.Reserve w Y.LoadBack)
 abbrev pub hauling : Ring → Wanted → Index → Haul
 hauling ring w b = record { ring = ring; f = w.f; n = w.n; b = b; in_hand = Nothing }
 
-abbrev pub withJob : Haul → ℕ → Haul
-withJob h job = record { ring = h.ring; f = h.f; n = h.n; b = h.b; in_hand = Job job }
+abbrev pub with_job : Haul → ℕ → Haul
+with_job h job = record { ring = h.ring; f = h.f; n = h.n; b = h.b; in_hand = Job job }
 
 -- an exchange was won: f goes up
 abbrev pub onward : Haul → InHand → Haul
-onward h j = record { ring = h.ring; f = plusOf h.f 1; n = h.n; b = h.b; in_hand = j }
+onward h j = record { ring = h.ring; f = plus_of h.f 1; n = h.n; b = h.b; in_hand = j }
 
-abbrev pub withCount : Haul → ℕ → Haul
-withCount h i = record { ring = h.ring; f = h.f; n = i; b = h.b; in_hand = h.in_hand }
+abbrev pub with_count : Haul → ℕ → Haul
+with_count h i = record { ring = h.ring; f = h.f; n = i; b = h.b; in_hand = h.in_hand }
 
 -- of n, i are done: the next, or none
 abbrev pub turn_of : ℕ → ℕ → Further
@@ -74,7 +74,7 @@ turn_of n i = pick (nat_le n i) Over (Next i)
 -- the first of the n jobs: at f, or at f + 1 where the job at f is in hand
 abbrev pub first_of : InHand → Index → Index
 first_of Nothing f = f
-first_of (Job job) f = plusOf f 1
+first_of (Job job) f = plus_of f 1
 
 -- copy the next, or load ring
 abbrev pub copying : Further → TakeStage
@@ -82,13 +82,13 @@ copying (Next i) = All (A.Copy i)
 copying Over = All A.ReloadRing
 
 -- the i-th of n from the other end: own back + n - 1 - i, which wraps
-abbrev pub mirrorOf : Haul → ℕ → Index
-mirrorOf h i = minusOf (minusOf (plusOf h.b h.n) 1) i
+abbrev pub mirror_of : Haul → ℕ → Index
+mirror_of h i = minus_of (minus_of (plus_of h.b h.n) 1) i
 
 -- the own index that takes the i-th of n
 abbrev pub slot_of : Flavor → Haul → ℕ → Index
-slot_of Fifo h i = plusOf h.b i
-slot_of Lifo h i = mirrorOf h i
+slot_of Fifo h i = plus_of h.b i
+slot_of Lifo h i = mirror_of h i
 
 -- ---- LIFO source, n times
 
@@ -102,30 +102,30 @@ abbrev pub landing : Flavor → ℕ → PutStage
 landing Fifo n = swapping (turn_of (n / 2) 0)
 landing Lifo n = W.StoreBack
 
-abbrev pub isNothing : InHand → Bool
-isNothing Nothing = true
-isNothing (Job job) = false
+abbrev pub is_nothing : InHand → Bool
+is_nothing Nothing = true
+is_nothing (Job job) = false
 
 -- stop, with i written. None taken: Retry
 abbrev pub stopped : Flavor → Haul → ℕ → Queue → BatchOut
-stopped own h i q = pick (isNothing h.in_hand && i == 0) (Ended q (Stolen Retry)) (put_at q (withCount h i) (landing own i))
+stopped own h i q = pick (is_nothing h.in_hand && i == 0) (Ended q (Stolen Retry)) (put_at q (with_count h i) (landing own i))
 
 -- i are written: load back for the next, or stop after n
 abbrev pub turning : Flavor → Haul → ℕ → Queue → BatchOut
-turning own h i q = pick (nat_le h.n i) (stopped own h i q) (takeAt q h (One (E.ReloadBack i)))
+turning own h i q = pick (nat_le h.n i) (stopped own h i q) (take_at q h (One (E.ReloadBack i)))
 
 -- one more than i are written; a number of 64 bits wraps
-abbrev pub writtenAfter : ℕ → ℕ
-writtenAfter i = (i + 1) % 2 ^ 64
+abbrev pub written_after : ℕ → ℕ
+written_after i = (i + 1) % 2 ^ 64
 
 -- the exchange for a job was won: what to write (of a batch and pop the PREVIOUS job), and what is then in hand
-abbrev pub toWrite : InHand → ℕ → ℕ
-toWrite Nothing job = job
-toWrite (Job previous) job = previous
+abbrev pub to_write : InHand → ℕ → ℕ
+to_write Nothing job = job
+to_write (Job previous) job = previous
 
-abbrev pub nextInHand : InHand → ℕ → InHand
-nextInHand Nothing job = Nothing
-nextInHand (Job previous) job = Job job
+abbrev pub next_in_hand : InHand → ℕ → InHand
+next_in_hand Nothing job = Nothing
+next_in_hand (Job previous) job = Job job
 
 abbrev pub answer_of : InHand → Answer
 answer_of Nothing = Moved

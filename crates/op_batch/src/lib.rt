@@ -1,10 +1,10 @@
 // What both halves of a batch share: how many jobs it wants, which stage comes next, which cells it works on.
 ghost use Rattle.std.specs.Prelude.{◌≡◌, ◌+◌, min};
-ghost use Rattle.op_batch.specs.Haul.{takeAt, put_at, reserveAt, wantedOf, reserving as reservingOf, withJob, onward as onwardOf, withCount, turn_of, first_of, copying as copyingOf, mirrorOf, slot_of, swapping as swappingOf, landing as landingOf, isNothing, stopped as stoppedOf, turning as turningOf, writtenAfter, toWrite, nextInHand, answer_of};
+ghost use Rattle.op_batch.specs.Haul.{take_at, put_at, reserve_at, wanted_of, reserving as reservingOf, with_job, onward as onwardOf, with_count, turn_of, first_of, copying as copyingOf, mirror_of, slot_of, swapping as swappingOf, landing as landingOf, is_nothing, stopped as stoppedOf, turning as turningOf, written_after, to_write, next_in_hand, answer_of};
 
-use core::answer::Answer;
-use core::queue::{Flavor, Queue};
-use core::stage::{
+use parts::answer::Answer;
+use parts::queue::{Flavor, Queue};
+use parts::stage::{
     AllStage, BatchKind, Haul, InHand, OneStage, OwnStage, PutStage, ReserveStage, SourceStage,
     SwapStage, TakeStage, Wanted,
 };
@@ -28,7 +28,7 @@ pub enum Further {
 
 // On to a stage of a part of the batch.
 pub fn take_at(q: Queue, haul: Haul, at: TakeStage) -> BatchOut
-    ensures { result ≡ takeAt q haul at }
+    ensures { result ≡ take_at q haul at }
 {
     BatchOut::Source(q, SourceStage::Take(haul, at))
 }
@@ -40,7 +40,7 @@ pub fn put_at(q: Queue, haul: Haul, at: PutStage) -> BatchOut
 }
 
 pub fn reserve_at(q: Queue, wanted: Wanted, at: ReserveStage) -> BatchOut
-    ensures { result ≡ reserveAt q wanted at }
+    ensures { result ≡ reserve_at q wanted at }
 {
     BatchOut::Own(q, OwnStage::Reserve(wanted, at))
 }
@@ -53,7 +53,7 @@ fn smaller(a: u64, b: u64) -> u64
 
 // How many jobs to move, of a source with length d, where the limit is others + 1.
 pub fn wanted(kind: BatchKind, d: u64, others: u64) -> u64
-    ensures { result ≡ wantedOf kind d others }
+    ensures { result ≡ wanted_of kind d others }
 {
     match kind {
         BatchKind::Batch => {
@@ -80,7 +80,7 @@ pub fn reserving(wanted: Wanted) -> OwnStage
 }
 
 pub fn with_job(haul: Haul, job: u64) -> Haul
-    ensures { result ≡ withJob haul job }
+    ensures { result ≡ with_job haul job }
 {
     let ring = haul.ring;
     let f = haul.f;
@@ -110,7 +110,7 @@ pub fn onward(haul: Haul, in_hand: InHand) -> Haul
 }
 
 fn with_count(haul: Haul, n: u64) -> Haul
-    ensures { result ≡ withCount haul n }
+    ensures { result ≡ with_count haul n }
 {
     let mut r = haul;
     r.n = n;
@@ -159,7 +159,7 @@ pub fn copying(further: Further) -> TakeStage
 
 // The own index of the i-th job from the other end.
 pub fn mirror(haul: Haul, i: u64) -> Index
-    ensures { result ≡ mirrorOf haul i }
+    ensures { result ≡ mirror_of haul i }
 {
     haul.b.plus(haul.n).minus(1).minus(i)
 }
@@ -198,7 +198,7 @@ fn landing(own: Flavor, n: u64) -> PutStage
 }
 
 fn is_nothing(in_hand: InHand) -> bool
-    ensures { result ≡ isNothing in_hand }
+    ensures { result ≡ is_nothing in_hand }
 {
     match in_hand {
         InHand::Nothing => true,
@@ -229,14 +229,14 @@ pub fn turning(own: Flavor, haul: Haul, i: u64, q: Queue) -> BatchOut
 
 // One more than so many are written.
 pub fn written_after(i: u64) -> u64
-    ensures { result ≡ writtenAfter i }
+    ensures { result ≡ written_after i }
 {
     std::num::wrapping_add_u64(i, 1)
 }
 
 // The exchange for a job was won: what to write, of a batch and pop the previous job.
 pub fn to_write(in_hand: InHand, job: u64) -> u64
-    ensures { result ≡ toWrite in_hand job }
+    ensures { result ≡ to_write in_hand job }
 {
     match in_hand {
         InHand::Nothing => job,
@@ -245,7 +245,7 @@ pub fn to_write(in_hand: InHand, job: u64) -> u64
 }
 
 pub fn next_in_hand(in_hand: InHand, job: u64) -> InHand
-    ensures { result ≡ nextInHand in_hand job }
+    ensures { result ≡ next_in_hand in_hand job }
 {
     match in_hand {
         InHand::Nothing => InHand::Nothing,

@@ -1,16 +1,16 @@
 // From a FIFO source, all at once.
 ghost use Rattle.std.specs.Prelude.{◌≡◌};
-ghost use Rattle.op_batch_all.specs.All.{allStepOf};
+ghost use Rattle.op_batch_all.specs.All.{all_step_of};
 
 use cells::read;
-use core::answer::Answer;
-use core::queue::Queue;
-use core::stage::{AllStage, Haul, PutStage, TakeStage};
+use parts::answer::Answer;
+use parts::queue::Queue;
+use parts::stage::{AllStage, Haul, PutStage, TakeStage};
 use op_batch::{BatchOut, first, put_at, take_at};
 use steal::Steal;
 
 pub fn all_step(haul: Haul, at: AllStage, q: Queue, pool: &[u64]) -> BatchOut
-    ensures { result ≡ allStepOf haul at q pool.now }
+    ensures { result ≡ all_step_of haul at q pool.now }
 {
     match at {
         AllStage::Copy { i } => {

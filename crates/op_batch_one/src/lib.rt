@@ -1,16 +1,16 @@
 // From a LIFO source, one by one.
 ghost use Rattle.std.specs.Prelude.{◌≡◌};
-ghost use Rattle.op_batch_one.specs.One.{oneStepOf};
+ghost use Rattle.op_batch_one.specs.One.{one_step_of};
 
 use cells::read;
-use core::answer::Answer;
-use core::queue::{Flavor, Queue};
-use core::stage::{Haul, InHand, OneStage, PutStage, TakeStage};
+use parts::answer::Answer;
+use parts::queue::{Flavor, Queue};
+use parts::stage::{Haul, InHand, OneStage, PutStage, TakeStage};
 use op_batch::{BatchOut, next_in_hand, onward, put_at, stopped, take_at, to_write, turning};
 use steal::Steal;
 
 pub fn one_step(own: Flavor, haul: Haul, at: OneStage, q: Queue, pool: &[u64]) -> BatchOut
-    ensures { result ≡ oneStepOf own haul at q pool.now }
+    ensures { result ≡ one_step_of own haul at q pool.now }
 {
     match at {
         OneStage::ExchangeFirst { job } => {

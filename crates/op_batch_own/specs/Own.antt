@@ -1,17 +1,17 @@
 -- The steps of a batch on the thread's own queue: reserve; load own back; then what was taken is put there.
 use Rattle.std.specs.Prelude.{ℕ, List}
-use Rattle.std.specs.declared.queue.Queue.{Queue}
-use Rattle.std.specs.declared.stage.SourceStage.TheVariants.{LoadRing}
-use Rattle.std.specs.declared.stage.OwnStage.{OwnStage}
-use Rattle.std.specs.declared.stage.OwnStage.TheVariants.{Reserve, LoadBack, Put}
-use Rattle.std.specs.declared.out.Claim.{Claim}
+use Rattle.parts.specs.declared.queue.Queue.{Queue}
+use Rattle.parts.specs.declared.stage.SourceStage.TheVariants.{LoadRing}
+use Rattle.parts.specs.declared.stage.OwnStage.{OwnStage}
+use Rattle.parts.specs.declared.stage.OwnStage.TheVariants.{Reserve, LoadBack, Put}
+use Rattle.parts.specs.declared.out.Claim.{Claim}
 use Rattle.op_batch.specs.declared.BatchOut.{BatchOut}
 use Rattle.op_batch.specs.declared.BatchOut.TheVariants.{Source}
-use Rattle.op_batch_reserve.specs.Reserve.{reserveOf}
+use Rattle.op_batch_reserve.specs.Reserve.{reserve_of}
 use Rattle.op_batch_put.specs.Put.{put_of}
 
 -- with the pool's cells
 abbrev pub own_of : OwnStage → Queue → Claim → List ℕ → BatchOut × List ℕ
-own_of (Reserve w at) q g cells = reserveOf w at q g cells
+own_of (Reserve w at) q g cells = reserve_of w at q g cells
 own_of (LoadBack w) q g cells = (Source q (LoadRing w q.back), cells)
 own_of (Put h at) q g cells = put_of h at q cells

@@ -2,9 +2,9 @@
 ghost use Rattle.std.specs.Prelude.{◌≡◌};
 ghost use Rattle.op_batch_own.specs.Own.{own_of};
 
-use core::out::Claim;
-use core::queue::Queue;
-use core::stage::{OwnStage, SourceStage};
+use parts::out::Claim;
+use parts::queue::Queue;
+use parts::stage::{OwnStage, SourceStage};
 use op_batch::BatchOut;
 use op_batch_put::put_step;
 use op_batch_reserve::reserve_step;

@@ -1,22 +1,22 @@
 -- What a batch took is put into the own queue: write own cells; into FIFO, reverse; store own back.
 use Rattle.std.specs.Prelude.{ℕ, ◌+◌, List}
-use Rattle.index.specs.Index.{plusOf}
+use Rattle.index.specs.Index.{plus_of}
 use Rattle.cells.specs.Cells.{written_of}
-use Rattle.std.specs.declared.queue.Queue.{Queue}
-use Rattle.std.specs.declared.stage.Haul.{Haul}
-use Rattle.std.specs.declared.stage.PutStage.{PutStage}
-use Rattle.std.specs.declared.stage.PutStage.TheVariants.{WriteCopy, WriteOne, Swap, StoreBack}
-use Rattle.std.specs.Out.{withBack}
+use Rattle.parts.specs.declared.queue.Queue.{Queue}
+use Rattle.parts.specs.declared.stage.Haul.{Haul}
+use Rattle.parts.specs.declared.stage.PutStage.{PutStage}
+use Rattle.parts.specs.declared.stage.PutStage.TheVariants.{WriteCopy, WriteOne, Swap, StoreBack}
+use Rattle.parts.specs.Out.{with_back}
 use Rattle.op_batch.specs.declared.BatchOut.{BatchOut}
 use Rattle.op_batch.specs.declared.BatchOut.TheVariants.{Ended}
-use Rattle.op_batch.specs.Haul.{takeAt, put_at, turn_of, copying, slot_of, turning, writtenAfter, answer_of}
-use Rattle.op_batch_put.specs.Swap.{swapOf}
+use Rattle.op_batch.specs.Haul.{take_at, put_at, turn_of, copying, slot_of, turning, written_after, answer_of}
+use Rattle.op_batch_put.specs.Swap.{swap_of}
 
 -- with the pool's cells
 abbrev pub put_of : Haul → PutStage → Queue → List ℕ → BatchOut × List ℕ
 put_of h (WriteCopy i job) q cells =
-    (takeAt q h (copying (turn_of h.n (i + 1))), written_of cells q.ring (slot_of q.flavor h i) job)
+    (take_at q h (copying (turn_of h.n (i + 1))), written_of cells q.ring (slot_of q.flavor h i) job)
 put_of h (WriteOne i job) q cells =
-    (turning q.flavor h (writtenAfter i) q, written_of cells q.ring (plusOf h.b i) job)
-put_of h (Swap x at) q cells = (put_at q h (swapOf h x at q cells).0, (swapOf h x at q cells).1)
-put_of h StoreBack q cells = (Ended (withBack q (plusOf h.b h.n)) (answer_of h.in_hand), cells)
+    (turning q.flavor h (written_after i) q, written_of cells q.ring (plus_of h.b i) job)
+put_of h (Swap x at) q cells = (put_at q h (swap_of h x at q cells).0, (swap_of h x at q cells).1)
+put_of h StoreBack q cells = (Ended (with_back q (plus_of h.b h.n)) (answer_of h.in_hand), cells)

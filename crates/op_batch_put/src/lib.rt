@@ -4,8 +4,8 @@ ghost use Rattle.op_batch_put.specs.Put.{put_of};
 
 use crate::swap::swap_step;
 use cells::write;
-use core::queue::Queue;
-use core::stage::{Haul, PutStage};
+use parts::queue::Queue;
+use parts::stage::{Haul, PutStage};
 use op_batch::{
     BatchOut, answer, copying, put_at, slot, take_at, turn_after, turning, written_after,
 };

@@ -1,23 +1,23 @@
 // What was taken into a FIFO queue one by one is reversed, by swaps from the outside in.
 ghost use Rattle.std.specs.Prelude.{◌≡◌};
-ghost use Rattle.op_batch_put.specs.Swap.{nearOf, swapOf};
+ghost use Rattle.op_batch_put.specs.Swap.{near_of, swap_of};
 
 use cells::{read, write};
-use core::queue::Queue;
-use core::stage::{Haul, PutStage, SwapStage};
+use parts::queue::Queue;
+use parts::stage::{Haul, PutStage, SwapStage};
 use index::Index;
 use op_batch::{mirror, swapping, turn_after};
 
 // The cell of a swap that is nearer the front; the other is its mirror image.
 fn near_cell(haul: Haul, x: u64) -> Index
-    ensures { result ≡ nearOf haul x }
+    ensures { result ≡ near_of haul x }
 {
     haul.b.plus(x)
 }
 
 // The queue stays as it is.
 pub fn swap_step(haul: Haul, x: u64, at: SwapStage, q: Queue, pool: &mut [u64]) -> PutStage
-    ensures { (result, pool.new) ≡ swapOf haul x at q pool.old }
+    ensures { (result, pool.new) ≡ swap_of haul x at q pool.old }
 {
     match at {
         SwapStage::ReadNear => {

@@ -1,11 +1,11 @@
 // Room in the own queue for what a batch wants.
 ghost use Rattle.std.specs.Prelude.{◌≡◌};
-ghost use Rattle.op_batch_reserve.specs.Reserve.{growing as growingOf, grown as grownOf, reserveOf};
+ghost use Rattle.op_batch_reserve.specs.Reserve.{growing as growingOf, grown as grown_of, reserve_of};
 
-use core::answer::{Answer, Shortage};
-use core::out::{Claim, Resized};
-use core::queue::Queue;
-use core::stage::{OwnStage, ReserveStage, ResizeStage, Wanted};
+use parts::answer::{Answer, Shortage};
+use parts::out::{Claim, Resized};
+use parts::queue::Queue;
+use parts::stage::{OwnStage, ReserveStage, ResizeStage, Wanted};
 use op_batch::{BatchOut, reserve_at};
 use op_resize::resize_step;
 use ring::{Capacity, Ring};
@@ -30,7 +30,7 @@ fn growing(wanted: Wanted, q: Queue, to: Capacity) -> BatchOut
 
 // What a batch does with a step of its resize.
 fn grown(wanted: Wanted, q: Queue, resized: Resized) -> BatchOut
-    ensures { result ≡ grownOf wanted q resized }
+    ensures { result ≡ grown_of wanted q resized }
 {
     match resized {
         Resized::Stage(at) => {
@@ -52,7 +52,7 @@ pub fn reserve_step(
     claim: Claim,
     pool: &mut [u64],
 ) -> BatchOut
-    ensures { (result, pool.new) ≡ reserveOf wanted at q claim pool.old }
+    ensures { (result, pool.new) ≡ reserve_of wanted at q claim pool.old }
 {
     match at {
         ReserveStage::LoadBack => {

@@ -1,12 +1,12 @@
 // The steps of a batch on its source.
 ghost use Rattle.std.specs.Prelude.{◌≡◌};
 ghost use Rattle.op_batch.specs.Haul.{hauling as haulingOf};
-ghost use Rattle.op_batch_source.specs.Source.{taking as takingOf, held as held_of, firstRead, take_of, source_of};
+ghost use Rattle.op_batch_source.specs.Source.{taking as takingOf, held as held_of, first_read, take_of, source_of};
 
 use cells::read;
-use core::answer::Answer;
-use core::queue::{Flavor, Queue};
-use core::stage::{BatchKind, Haul, InHand, OneStage, SourceStage, TakeStage, Wanted};
+use parts::answer::Answer;
+use parts::queue::{Flavor, Queue};
+use parts::stage::{BatchKind, Haul, InHand, OneStage, SourceStage, TakeStage, Wanted};
 use index::Index;
 use op_batch::{BatchOut, copying, reserving, stopped, take_at, turn, wanted, with_job};
 use op_batch_all::all_step;
@@ -61,7 +61,7 @@ fn held(kind: BatchKind, own: Flavor, haul: Haul, q: Queue) -> BatchOut
 
 // A batch and pop has read its first job.
 fn first_read(flavor: Flavor, haul: Haul, job: u64, q: Queue) -> BatchOut
-    ensures { result ≡ firstRead flavor haul job q }
+    ensures { result ≡ first_read flavor haul job q }
 {
     match flavor {
         Flavor::Fifo => {

@@ -1,10 +1,10 @@
 // A length, and a batch from the thread's own queue, a step at a time.
 ghost use Rattle.std.specs.Prelude.{◌≡◌};
-ghost use Rattle.op_length.specs.Length.{lengthStepOf, ownBatchOf};
+ghost use Rattle.op_length.specs.Length.{length_step_of, own_batch_of};
 
-use core::answer::Answer;
-use core::queue::Queue;
-use core::stage::LengthStage;
+use parts::answer::Answer;
+use parts::queue::Queue;
+use parts::stage::LengthStage;
 use steal::Steal;
 
 // What a step of either leaves: the queue, with the next stage or the answer.
@@ -16,7 +16,7 @@ pub enum LengthOut {
 
 // A step of a length of queue q.
 pub fn length_step(at: LengthStage, q: Queue) -> LengthOut
-    ensures { result ≡ lengthStepOf at q }
+    ensures { result ≡ length_step_of at q }
 {
     match at {
         LengthStage::LoadBack => {
@@ -33,7 +33,7 @@ pub fn length_step(at: LengthStage, q: Queue) -> LengthOut
 
 // A step of a batch from the thread's own queue q, which moves nothing.
 pub fn own_batch_step(at: LengthStage, q: Queue) -> LengthOut
-    ensures { result ≡ ownBatchOf at q }
+    ensures { result ≡ own_batch_of at q }
 {
     match at {
         LengthStage::LoadBack => {

@@ -2,9 +2,9 @@
 ghost use Rattle.std.specs.Prelude.{◌≡◌};
 ghost use Rattle.op_pop.specs.Pop.{pop_of};
 
-use core::out::Claim;
-use core::queue::Queue;
-use core::stage::{PopStage, Popper};
+use parts::out::Claim;
+use parts::queue::Queue;
+use parts::stage::{PopStage, Popper};
 use op_pop_fifo::fifo_pop_step;
 use op_pop_lifo::lifo_pop_step;
 use op_shrink::{PopOut, shrink_step};

@@ -2,29 +2,29 @@
 -- cell f. If capacity > 64 and the difference first seen <= capacity / 4, shrink to half. Answer.
 use Rattle.std.specs.Prelude.{ℕ, ◌+◌, ◌/◌, ◌&&◌, List, nat_le, nat_lt}
 use Rattle.base.specs.Tests.{pick}
-use Rattle.index.specs.Index.{emptyB, behindB, plusOf}
+use Rattle.index.specs.Index.{empty_b, behind_b, plus_of}
 use Rattle.ring.specs.Capacity.{smallest}
 use Rattle.cells.specs.Cells.{read_of}
-use Rattle.std.specs.declared.queue.Queue.{Queue}
-use Rattle.std.specs.declared.stage.FifoPopStage.{FifoPopStage}
-use Rattle.std.specs.declared.stage.FifoPopStage.TheVariants.{LoadBack, LoadFront, FetchAdd, RestoreFront, Read}
-use Rattle.std.specs.declared.stage.PopStage.TheVariants.{Fifo}
-use Rattle.std.specs.declared.stage.Popper.{Popper}
-use Rattle.std.specs.Out.{withFront}
+use Rattle.parts.specs.declared.queue.Queue.{Queue}
+use Rattle.parts.specs.declared.stage.FifoPopStage.{FifoPopStage}
+use Rattle.parts.specs.declared.stage.FifoPopStage.TheVariants.{LoadBack, LoadFront, FetchAdd, RestoreFront, Read}
+use Rattle.parts.specs.declared.stage.PopStage.TheVariants.{Fifo}
+use Rattle.parts.specs.declared.stage.Popper.{Popper}
+use Rattle.parts.specs.Out.{with_front}
 use Rattle.op_shrink.specs.declared.PopOut.{PopOut}
 use Rattle.op_shrink.specs.declared.PopOut.TheVariants.{Going, Ended}
-use Rattle.op_shrink.specs.Shrink.{othersOf, nothingFor, reading}
+use Rattle.op_shrink.specs.Shrink.{others_of, nothing_for, reading}
 
 -- on to a stage of the FIFO pop
 abbrev pub fifo : Queue → FifoPopStage → PopOut
 fifo q at = Going q (Fifo at)
 
-abbrev pub fifoPopOf : Popper → FifoPopStage → Queue → List ℕ → PopOut
-fifoPopOf w LoadBack q cells = fifo q (LoadFront q.back)
-fifoPopOf w (LoadFront b) q cells = pick (emptyB b q.front) (Ended q (nothingFor w)) (fifo q (FetchAdd b (othersOf b q.front)))
-fifoPopOf w (FetchAdd b others) q cells =
-    fifo (withFront q (plusOf q.front 1))
-    (pick (behindB b (plusOf q.front 1)) (RestoreFront q.front) (Read q.front others))
-fifoPopOf w (RestoreFront f) q cells = Ended (withFront q f) (nothingFor w)
-fifoPopOf w (Read f others) q cells =
+abbrev pub fifo_pop_of : Popper → FifoPopStage → Queue → List ℕ → PopOut
+fifo_pop_of w LoadBack q cells = fifo q (LoadFront q.back)
+fifo_pop_of w (LoadFront b) q cells = pick (empty_b b q.front) (Ended q (nothing_for w)) (fifo q (FetchAdd b (others_of b q.front)))
+fifo_pop_of w (FetchAdd b others) q cells =
+    fifo (with_front q (plus_of q.front 1))
+    (pick (behind_b b (plus_of q.front 1)) (RestoreFront q.front) (Read q.front others))
+fifo_pop_of w (RestoreFront f) q cells = Ended (with_front q f) (nothing_for w)
+fifo_pop_of w (Read f others) q cells =
     reading (nat_lt smallest q.ring.capacity && nat_le (others + 1) (q.ring.capacity / 4)) w (read_of cells q.ring f) q

@@ -1,22 +1,22 @@
 // A pop from the front.
 ghost use Rattle.std.specs.Prelude.{◌≡◌};
-ghost use Rattle.op_pop_fifo.specs.FifoPop.{fifo as fifoOf, fifoPopOf};
+ghost use Rattle.op_pop_fifo.specs.FifoPop.{fifo as fifo_of, fifo_pop_of};
 
 use cells::read;
-use core::queue::Queue;
-use core::stage::{FifoPopStage, PopStage, Popper};
+use parts::queue::Queue;
+use parts::stage::{FifoPopStage, PopStage, Popper};
 use op_shrink::{PopOut, nothing_for, others, reading};
 use ring::Ring;
 
 fn fifo(q: Queue, at: FifoPopStage) -> PopOut
-    ensures { result ≡ fifoOf q at }
+    ensures { result ≡ fifo_of q at }
 {
     PopOut::Going(q, PopStage::Fifo(at))
 }
 
 // A step of a pop from the front of queue q.
 pub fn fifo_pop_step(popper: Popper, at: FifoPopStage, q: Queue, pool: &[u64]) -> PopOut
-    ensures { result ≡ fifoPopOf popper at q pool.now }
+    ensures { result ≡ fifo_pop_of popper at q pool.now }
 {
     match at {
         FifoPopStage::LoadBack => {

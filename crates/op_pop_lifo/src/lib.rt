@@ -1,16 +1,16 @@
 // A pop from the back.
 ghost use Rattle.std.specs.Prelude.{◌≡◌};
-ghost use Rattle.op_pop_lifo.specs.LifoPop.{lifo as lifoOf, decided as decidedOf, fewB, lifoPopOf};
+ghost use Rattle.op_pop_lifo.specs.LifoPop.{lifo as lifo_of, decided as decidedOf, few_b, lifo_pop_of};
 
 use cells::read;
-use core::queue::Queue;
-use core::stage::{LifoPopStage, PopStage, Popper};
+use parts::queue::Queue;
+use parts::stage::{LifoPopStage, PopStage, Popper};
 use index::Index;
 use op_shrink::{PopOut, nothing_for, others, reading};
 use ring::Ring;
 
 fn lifo(q: Queue, at: LifoPopStage) -> PopOut
-    ensures { result ≡ lifoOf q at }
+    ensures { result ≡ lifo_of q at }
 {
     PopOut::Going(q, PopStage::Lifo(at))
 }
@@ -32,7 +32,7 @@ fn decided(b: Index, f: Index) -> LifoPopStage
 
 // d, which is one more than the others, is below a quarter of the capacity, and that is not the smallest.
 fn is_few(others: u64, capacity: usize) -> bool
-    ensures { result ≡ fewB others capacity }
+    ensures { result ≡ few_b others capacity }
 {
     if capacity <= Ring::SMALLEST {
         return false;
@@ -42,7 +42,7 @@ fn is_few(others: u64, capacity: usize) -> bool
 
 // A step of a pop from the back of queue q.
 pub fn lifo_pop_step(popper: Popper, at: LifoPopStage, q: Queue, pool: &[u64]) -> PopOut
-    ensures { result ≡ lifoPopOf popper at q pool.now }
+    ensures { result ≡ lifo_pop_of popper at q pool.now }
 {
     match at {
         LifoPopStage::LoadBack => {

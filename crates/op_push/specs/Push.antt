@@ -2,22 +2,22 @@
 use Rattle.std.specs.Prelude.{ℕ, List}
 use Rattle.base.specs.Tests.{pick}
 use Rattle.index.specs.declared.Index.{Index}
-use Rattle.index.specs.Index.{fullB, plusOf}
+use Rattle.index.specs.Index.{full_b, plus_of}
 use Rattle.ring.specs.declared.Capacity.{Capacity}
 use Rattle.ring.specs.declared.Capacity.TheVariants as C
 use Rattle.ring.specs.Capacity.{twice_of}
 use Rattle.cells.specs.Cells.{written_of}
-use Rattle.std.specs.declared.queue.Queue.{Queue}
-use Rattle.std.specs.declared.stage.ResizeStage.TheVariants as Z
-use Rattle.std.specs.declared.stage.PushStage.{PushStage}
-use Rattle.std.specs.declared.stage.PushStage.TheVariants.{LoadBack, LoadFront, Resize, Write, StoreBack}
-use Rattle.std.specs.declared.answer.Answer.TheVariants as A
-use Rattle.std.specs.declared.answer.Shortage.TheVariants.{TooLarge, NoRing}
-use Rattle.std.specs.declared.out.Claim.{Claim}
-use Rattle.std.specs.declared.out.Resized.{Resized}
-use Rattle.std.specs.declared.out.Resized.TheVariants as R
-use Rattle.std.specs.Out.{withBack}
-use Rattle.op_resize.specs.Resize.{resizeOf}
+use Rattle.parts.specs.declared.queue.Queue.{Queue}
+use Rattle.parts.specs.declared.stage.ResizeStage.TheVariants as Z
+use Rattle.parts.specs.declared.stage.PushStage.{PushStage}
+use Rattle.parts.specs.declared.stage.PushStage.TheVariants.{LoadBack, LoadFront, Resize, Write, StoreBack}
+use Rattle.parts.specs.declared.answer.Answer.TheVariants as A
+use Rattle.parts.specs.declared.answer.Shortage.TheVariants.{TooLarge, NoRing}
+use Rattle.parts.specs.declared.out.Claim.{Claim}
+use Rattle.parts.specs.declared.out.Resized.{Resized}
+use Rattle.parts.specs.declared.out.Resized.TheVariants as R
+use Rattle.parts.specs.Out.{with_back}
+use Rattle.op_resize.specs.Resize.{resize_of}
 use Rattle.op_push.specs.declared.PushOut.{PushOut}
 use Rattle.op_push.specs.declared.PushOut.TheVariants.{Going, Ended}
 
@@ -32,10 +32,10 @@ grown b q R.NoRing = Ended q (A.GaveUp NoRing)
 grown b q (R.Done r) = Going r (Write b)
 
 -- with the pool's cells
-abbrev pub pushOf : ℕ → PushStage → Queue → Claim → List ℕ → PushOut × List ℕ
-pushOf job LoadBack q g cells = (Going q (LoadFront q.back), cells)
-pushOf job (LoadFront b) q g cells =
-    (pick (fullB b q.front q.ring.capacity) (growing b q (twice_of q.ring.capacity)) (Going q (Write b)), cells)
-pushOf job (Resize b z) q g cells = (grown b q (resizeOf z q g cells).resized, (resizeOf z q g cells).cells)
-pushOf job (Write b) q g cells = (Going q (StoreBack b), written_of cells q.ring b job)
-pushOf job (StoreBack b) q g cells = (Ended (withBack q (plusOf b 1)) A.Done, cells)
+abbrev pub push_of : ℕ → PushStage → Queue → Claim → List ℕ → PushOut × List ℕ
+push_of job LoadBack q g cells = (Going q (LoadFront q.back), cells)
+push_of job (LoadFront b) q g cells =
+    (pick (full_b b q.front q.ring.capacity) (growing b q (twice_of q.ring.capacity)) (Going q (Write b)), cells)
+push_of job (Resize b z) q g cells = (grown b q (resize_of z q g cells).resized, (resize_of z q g cells).cells)
+push_of job (Write b) q g cells = (Going q (StoreBack b), written_of cells q.ring b job)
+push_of job (StoreBack b) q g cells = (Ended (with_back q (plus_of b 1)) A.Done, cells)

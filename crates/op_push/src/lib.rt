@@ -1,12 +1,12 @@
 // A push, a step at a time.
 ghost use Rattle.std.specs.Prelude.{◌≡◌};
-ghost use Rattle.op_push.specs.Push.{growing as growingOf, grown as grownOf, pushOf};
+ghost use Rattle.op_push.specs.Push.{growing as growingOf, grown as grown_of, push_of};
 
 use cells::write;
-use core::answer::{Answer, Shortage};
-use core::out::{Claim, Resized};
-use core::queue::Queue;
-use core::stage::{PushStage, ResizeStage};
+use parts::answer::{Answer, Shortage};
+use parts::out::{Claim, Resized};
+use parts::queue::Queue;
+use parts::stage::{PushStage, ResizeStage};
 use index::Index;
 use op_resize::resize_step;
 use ring::{Capacity, Ring};
@@ -36,7 +36,7 @@ fn growing(b: Index, q: Queue, to: Capacity) -> PushOut
 
 // What a push does with a step of its resize.
 fn grown(b: Index, q: Queue, resized: Resized) -> PushOut
-    ensures { result ≡ grownOf b q resized }
+    ensures { result ≡ grown_of b q resized }
 {
     match resized {
         Resized::Stage(at) => PushOut::Going(q, PushStage::Resize { b, at }),
@@ -47,7 +47,7 @@ fn grown(b: Index, q: Queue, resized: Resized) -> PushOut
 
 // A step of a push of a job into queue q.
 pub fn push_step(job: u64, at: PushStage, q: Queue, claim: Claim, pool: &mut [u64]) -> PushOut
-    ensures { (result, pool.new) ≡ pushOf job at q claim pool.old }
+    ensures { (result, pool.new) ≡ push_of job at q claim pool.old }
 {
     match at {
         PushStage::LoadBack => {

@@ -3,18 +3,18 @@
 use Rattle.std.specs.Prelude.{ℕ, ◌-◌, ◌^◌, List, nat_lt}
 use Rattle.base.specs.Tests.{pick}
 use Rattle.index.specs.declared.Index.{Index}
-use Rattle.index.specs.Index.{sameB, plusOf}
+use Rattle.index.specs.Index.{same_b, plus_of}
 use Rattle.ring.specs.declared.RingNumber.{RingNumber}
 use Rattle.ring.specs.declared.Ring.{Ring}
-use Rattle.cells.specs.Cells.{copiedOf}
-use Rattle.std.specs.declared.queue.Queue.{Queue}
-use Rattle.std.specs.declared.stage.ResizeStage.{ResizeStage}
-use Rattle.std.specs.declared.stage.ResizeStage.TheVariants.{LoadBack, LoadFront, Copy, Swap}
-use Rattle.std.specs.declared.out.Claim.{Claim}
-use Rattle.std.specs.declared.out.Claim.TheVariants.{Nothing, Got}
-use Rattle.std.specs.declared.out.Resized.{Resized}
-use Rattle.std.specs.declared.out.Resized.TheVariants.{Stage, NoRing, Done}
-use Rattle.std.specs.Out.{withRing}
+use Rattle.cells.specs.Cells.{copied_of}
+use Rattle.parts.specs.declared.queue.Queue.{Queue}
+use Rattle.parts.specs.declared.stage.ResizeStage.{ResizeStage}
+use Rattle.parts.specs.declared.stage.ResizeStage.TheVariants.{LoadBack, LoadFront, Copy, Swap}
+use Rattle.parts.specs.declared.out.Claim.{Claim}
+use Rattle.parts.specs.declared.out.Claim.TheVariants.{Nothing, Got}
+use Rattle.parts.specs.declared.out.Resized.{Resized}
+use Rattle.parts.specs.declared.out.Resized.TheVariants.{Stage, NoRing, Done}
+use Rattle.parts.specs.Out.{with_ring}
 
 pub record Resizing : Type 0 where
   pub resized : Resized
@@ -25,18 +25,18 @@ resizing r cells = record { resized = r; cells = cells }
 
 -- the next index is i: copy it, or swap where it is the back just loaded
 abbrev pub copying : Index → Index → Ring → Resized
-copying b i ring = pick (sameB i b) (Stage (Swap ring)) (Stage (Copy b i ring))
+copying b i ring = pick (same_b i b) (Stage (Swap ring)) (Stage (Copy b i ring))
 
 -- what a claim finds: p is the lowest-numbered free place, or the place count n with none free; 2^64 - 1 is never given
-abbrev pub foundOf : ℕ → ℕ → RingNumber → Claim
-foundOf p n number = pick (nat_lt p n) (pick (nat_lt number.0 (2 ^ 64 - 1)) (Got number (record { 0 = p })) Nothing) Nothing
+abbrev pub found_of : ℕ → ℕ → RingNumber → Claim
+found_of p n number = pick (nat_lt p n) (pick (nat_lt number.0 (2 ^ 64 - 1)) (Got number (record { 0 = p })) Nothing) Nothing
 
 abbrev pub claimed : ℕ → Index → Queue → Claim → Resized
 claimed c b q Nothing = NoRing
 claimed c b q (Got number place) = copying b q.front (record { number = number; place = place; capacity = c })
 
-abbrev pub resizeOf : ResizeStage → Queue → Claim → List ℕ → Resizing
-resizeOf (LoadBack c) q g cells = resizing (Stage (LoadFront c q.back)) cells
-resizeOf (LoadFront c b) q g cells = resizing (claimed c b q g) cells
-resizeOf (Copy b i ring) q g cells = resizing (copying b (plusOf i 1) ring) (copiedOf cells q.ring ring i)
-resizeOf (Swap ring) q g cells = resizing (Done (withRing q ring)) cells
+abbrev pub resize_of : ResizeStage → Queue → Claim → List ℕ → Resizing
+resize_of (LoadBack c) q g cells = resizing (Stage (LoadFront c q.back)) cells
+resize_of (LoadFront c b) q g cells = resizing (claimed c b q g) cells
+resize_of (Copy b i ring) q g cells = resizing (copying b (plus_of i 1) ring) (copied_of cells q.ring ring i)
+resize_of (Swap ring) q g cells = resizing (Done (with_ring q ring)) cells

@@ -1,11 +1,11 @@
 // A resize of a queue, a step at a time.
 ghost use Rattle.std.specs.Prelude.{◌≡◌};
-ghost use Rattle.op_resize.specs.Resize.{copying as copyingOf, foundOf, claimed as claimed_of, resizing, resizeOf};
+ghost use Rattle.op_resize.specs.Resize.{copying as copyingOf, found_of, claimed as claimed_of, resizing, resize_of};
 
 use cells::copy;
-use core::out::{Claim, Resized};
-use core::queue::Queue;
-use core::stage::ResizeStage;
+use parts::out::{Claim, Resized};
+use parts::queue::Queue;
+use parts::stage::ResizeStage;
 use index::Index;
 use ring::{PlaceNumber, Ring, RingNumber};
 
@@ -21,7 +21,7 @@ fn copying(b: Index, i: Index, ring: Ring) -> Resized
 
 // What a claim finds, where this is the lowest-numbered free place, or the place count with none free; the last number is never given.
 pub fn found(place: usize, places: usize, number: RingNumber) -> Claim
-    ensures { result ≡ foundOf place places number }
+    ensures { result ≡ found_of place places number }
 {
     if place < places {
         if number.0 < u64::MAX {
@@ -53,7 +53,7 @@ fn claimed(capacity: usize, b: Index, q: Queue, claim: Claim) -> Resized
 
 // A step of a resize of queue q.
 pub fn resize_step(at: ResizeStage, q: Queue, claim: Claim, pool: &mut [u64]) -> Resized
-    ensures { resizing result pool.new ≡ resizeOf at q claim pool.old }
+    ensures { resizing result pool.new ≡ resize_of at q claim pool.old }
 {
     match at {
         ResizeStage::LoadBack { capacity } => {

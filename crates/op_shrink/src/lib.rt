@@ -1,11 +1,11 @@
 // What both pops share: how they answer, and the shrinking.
 ghost use Rattle.std.specs.Prelude.{◌≡◌};
-ghost use Rattle.op_shrink.specs.Shrink.{othersOf, nothingFor, jobFor, reading as reading_of, shrunk as shrunkOf, shrinkOf};
+ghost use Rattle.op_shrink.specs.Shrink.{others_of, nothing_for, job_for, reading as reading_of, shrunk as shrunkOf, shrink_of};
 
-use core::answer::Answer;
-use core::out::{Claim, Resized};
-use core::queue::Queue;
-use core::stage::{PopStage, Popper, ResizeStage};
+use parts::answer::Answer;
+use parts::out::{Claim, Resized};
+use parts::queue::Queue;
+use parts::stage::{PopStage, Popper, ResizeStage};
 use index::Index;
 use op_resize::resize_step;
 use ring::Ring;
@@ -20,7 +20,7 @@ pub enum PopOut {
 
 // The difference less one, of a queue that is not empty: how many stand beside one of its jobs.
 pub fn others(back: Index, front: Index) -> u64
-    ensures { result ≡ othersOf back front }
+    ensures { result ≡ others_of back front }
 {
     let length = back.length(front);
     if length == 0 { 0 } else { length - 1 }
@@ -28,7 +28,7 @@ pub fn others(back: Index, front: Index) -> u64
 
 // The answer of a pop that found nothing.
 pub fn nothing_for(popper: Popper) -> Answer
-    ensures { result ≡ nothingFor popper }
+    ensures { result ≡ nothing_for popper }
 {
     match popper {
         Popper::Pop => Answer::Nothing,
@@ -38,7 +38,7 @@ pub fn nothing_for(popper: Popper) -> Answer
 
 // The answer of a pop that has its job.
 pub fn job_for(popper: Popper, job: u64) -> Answer
-    ensures { result ≡ jobFor popper job }
+    ensures { result ≡ job_for popper job }
 {
     match popper {
         Popper::Pop => Answer::Job(job),
@@ -89,7 +89,7 @@ pub fn shrink_step(
     claim: Claim,
     pool: &mut [u64],
 ) -> PopOut
-    ensures { (result, pool.new) ≡ shrinkOf popper job at q claim pool.old }
+    ensures { (result, pool.new) ≡ shrink_of popper job at q claim pool.old }
 {
     shrunk(popper, job, q, resize_step(at, q, claim, pool))
 }

@@ -1,11 +1,11 @@
 // A single steal, a step at a time.
 ghost use Rattle.std.specs.Prelude.{◌≡◌};
-ghost use Rattle.op_steal.specs.Steal.{stealOf};
+ghost use Rattle.op_steal.specs.Steal.{steal_of};
 
 use cells::read;
-use core::answer::Answer;
-use core::queue::Queue;
-use core::stage::StealStage;
+use parts::answer::Answer;
+use parts::queue::Queue;
+use parts::stage::StealStage;
 use steal::Steal;
 
 // What a step of a steal leaves: the queue, with the next stage or the answer.
@@ -17,7 +17,7 @@ pub enum StealOut {
 
 // A step of a steal from queue q.
 pub fn steal_step(at: StealStage, q: Queue, pool: &[u64]) -> StealOut
-    ensures { result ≡ stealOf at q pool.now }
+    ensures { result ≡ steal_of at q pool.now }
 {
     match at {
         StealStage::LoadFront => {

@@ -1,11 +1,11 @@
 -- The forms of our promises. Each says `form r c ≡ v`: what a call leaves, put together, is what a definition gives; r is the result, c what was lent,
 -- as the call leaves it. A form can be taken apart again.
 use Rattle.std.specs.Prelude.{◌≡◌, ℕ, List, refl}
-use Rattle.std.specs.declared.out.Out.{Out}
-use Rattle.std.specs.Out.{Left, left}
+use Rattle.parts.specs.declared.out.Out.{Out}
+use Rattle.parts.specs.Out.{Left, left}
 use Rattle.machine.specs.declared.state.Called.{Called}
 use Rattle.machine.specs.State.{After, leaves}
-use Rattle.std.specs.declared.out.Resized.{Resized}
+use Rattle.parts.specs.declared.out.Resized.{Resized}
 use Rattle.op_resize.specs.Resize.{Resizing, resizing}
 use Rattle.writing.specs.Writing.{Page, page}
 use Rattle.stand.specs.declared.Stand.{Stand}
@@ -15,33 +15,33 @@ pub record Form (A C B : Type 0) : Type 0 where
   pub form : A → C → B
   pub result : B → A
   pub rest : B → C
-  pub result-is : (r : A) (c : C) → result (form r c) ≡ r
-  pub rest-is : (r : A) (c : C) → rest (form r c) ≡ c
+  pub result_is : (r : A) (c : C) → result (form r c) ≡ r
+  pub rest_is : (r : A) (c : C) → rest (form r c) ≡ c
 
 -- the result alone: `r ≡ v`
 abbrev pub plain : {A : Type 0} → Form A Unit A
-plain = record { form = λ r c. r; result = λ v. v; rest = λ v. tt; result-is = λ r c. refl; rest-is = λ r c. refl }
+plain = record { form = λ r c. r; result = λ v. v; rest = λ v. tt; result_is = λ r c. refl; rest_is = λ r c. refl }
 
 -- the result beside the cells: `(r, now pool.exit) ≡ v`
 abbrev pub paired : {A : Type 0} → Form A (List ℕ) (A × List ℕ)
-paired = record { form = λ r c. (r, c); result = λ v. v.0; rest = λ v. v.1; result-is = λ r c. refl; rest-is = λ r c. refl }
+paired = record { form = λ r c. (r, c); result = λ v. v.0; rest = λ v. v.1; result_is = λ r c. refl; rest_is = λ r c. refl }
 
 -- a call of the machine; a step of a queue; a text put on a page
 abbrev pub called : Form Called (List ℕ) After
-called = record { form = leaves; result = λ v. v.called; rest = λ v. v.cells; result-is = λ r c. refl; rest-is = λ r c. refl }
+called = record { form = leaves; result = λ v. v.called; rest = λ v. v.cells; result_is = λ r c. refl; rest_is = λ r c. refl }
 
 abbrev pub stepped : Form Out (List ℕ) Left
-stepped = record { form = left; result = λ v. v.out; rest = λ v. v.cells; result-is = λ r c. refl; rest-is = λ r c. refl }
+stepped = record { form = left; result = λ v. v.out; rest = λ v. v.cells; result_is = λ r c. refl; rest_is = λ r c. refl }
 
 abbrev pub printed : Form ℕ (List ℕ) Page
-printed = record { form = λ r c. page c r; result = λ v. v.at; rest = λ v. v.bytes; result-is = λ r c. refl; rest-is = λ r c. refl }
+printed = record { form = λ r c. page c r; result = λ v. v.at; rest = λ v. v.bytes; result_is = λ r c. refl; rest_is = λ r c. refl }
 
 -- a step of a resize; what the program has next
 abbrev pub resized : Form Resized (List ℕ) Resizing
-resized = record { form = resizing; result = λ v. v.resized; rest = λ v. v.cells; result-is = λ r c. refl; rest-is = λ r c. refl }
+resized = record { form = resizing; result = λ v. v.resized; rest = λ v. v.cells; result_is = λ r c. refl; rest_is = λ r c. refl }
 
 abbrev pub acted : Form Stand (List ℕ × List ℕ) Scene
-acted = record { form = λ r c. scene r c.0 c.1; result = λ v. v.stand; rest = λ v. (v.cells, v.bytes); result-is = λ r c. refl; rest-is = λ r c. refl }
+acted = record { form = λ r c. scene r c.0 c.1; result = λ v. v.stand; rest = λ v. (v.cells, v.bytes); result_is = λ r c. refl; rest_is = λ r c. refl }
 
 -- a part of what was lent, shown: `now r ≡ v`
 abbrev pub shown : Form (List ℕ) Unit (List ℕ)
@@ -49,10 +49,10 @@ shown = plain
 
 -- no result, and one, two or three lists that were lent: `now x.exit ≡ v`, `(now x.exit, now y.exit) ≡ v`, ..
 abbrev pub lent : Form Unit (List ℕ) (List ℕ)
-lent = record { form = λ r c. c; result = λ v. tt; rest = λ v. v; result-is = λ r c. refl; rest-is = λ r c. refl }
+lent = record { form = λ r c. c; result = λ v. tt; rest = λ v. v; result_is = λ r c. refl; rest_is = λ r c. refl }
 
-abbrev pub lentTwo : Form Unit (List ℕ × List ℕ) (List ℕ × List ℕ)
-lentTwo = record { form = λ r c. (c.0, c.1); result = λ v. tt; rest = λ v. v; result-is = λ r c. refl; rest-is = λ r c. refl }
+abbrev pub lent_two : Form Unit (List ℕ × List ℕ) (List ℕ × List ℕ)
+lent_two = record { form = λ r c. (c.0, c.1); result = λ v. tt; rest = λ v. v; result_is = λ r c. refl; rest_is = λ r c. refl }
 
-abbrev pub lentThree : Form Unit (List ℕ × List ℕ × List ℕ) (List ℕ × List ℕ × List ℕ)
-lentThree = record { form = λ r c. (c.0, c.1, c.2); result = λ v. tt; rest = λ v. v; result-is = λ r c. refl; rest-is = λ r c. refl }
+abbrev pub lent_three : Form Unit (List ℕ × List ℕ × List ℕ) (List ℕ × List ℕ × List ℕ)
+lent_three = record { form = λ r c. (c.0, c.1, c.2); result = λ v. tt; rest = λ v. v; result_is = λ r c. refl; rest_is = λ r c. refl }

@@ -1,16 +1,16 @@
 // Whether current and built rings are in different places.
 ghost use Rattle.std.specs.Prelude.{◌≡◌};
 ghost use Rattle.base.specs.Below.{all_below};
-ghost use Rattle.std.specs.Queues.{queueIn};
-ghost use Rattle.places.specs.Places.{keptIn, apartOf, allApartOf};
+ghost use Rattle.parts.specs.Queues.{queue_in};
+ghost use Rattle.places.specs.Places.{kept_in, apart_of, all_apart_of};
 
 use crate::kept::{both_build, builds_in, kept_of};
-use core::queue::{Queue, queue_of};
+use parts::queue::{Queue, queue_of};
 use keeps::Kept;
 
 // The place of queue k's ring.
 pub(crate) fn place_of(queues: [Queue; 4], k: usize) -> usize
-    ensures { result ≡ (queueIn queues k).ring.place.0 }
+    ensures { result ≡ (queue_in queues k).ring.place.0 }
 {
     let q = queue_of(queues, k);
     q.ring.place.0
@@ -18,7 +18,7 @@ pub(crate) fn place_of(queues: [Queue; 4], k: usize) -> usize
 
 // Queue i's ring and what thread j builds are in different places; and so are, of two, the queues' rings and what the threads build.
 fn apart(queues: [Queue; 4], kept: [Kept; 4], i: usize, j: usize) -> bool
-    ensures { result ≡ apartOf (queueIn queues) (keptIn kept) i j }
+    ensures { result ≡ apart_of (queue_in queues) (kept_in kept) i j }
 {
     let first = place_of(queues, i);
     let second = place_of(queues, j);
@@ -28,7 +28,7 @@ fn apart(queues: [Queue; 4], kept: [Kept; 4], i: usize, j: usize) -> bool
 }
 
 fn apart_from(queues: [Queue; 4], kept: [Kept; 4], count: usize, i: usize) -> bool
-    ensures { result ≡ all_below count (apartOf (queueIn queues) (keptIn kept) i) }
+    ensures { result ≡ all_below count (apart_of (queue_in queues) (kept_in kept) i) }
 {
     let mut j = 0;
     while j < count {
@@ -41,7 +41,7 @@ fn apart_from(queues: [Queue; 4], kept: [Kept; 4], count: usize, i: usize) -> bo
 }
 
 pub fn all_apart(queues: [Queue; 4], kept: [Kept; 4], count: usize) -> bool
-    ensures { result ≡ allApartOf (queueIn queues) (keptIn kept) count }
+    ensures { result ≡ all_apart_of (queue_in queues) (kept_in kept) count }
 {
     let mut i = 0;
     while i < count {

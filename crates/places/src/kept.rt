@@ -1,19 +1,19 @@
 // A ring that a thread keeps, and a place.
 ghost use Rattle.std.specs.Prelude.{◌≡◌};
-ghost use Rattle.places.specs.Places.{buildsIn, bothBuild, keepsIn, keptIn};
+ghost use Rattle.places.specs.Places.{builds_in, both_build, keeps_in, kept_in};
 
 use keeps::Kept;
 
 // What thread t keeps, of these, and nothing where there is none.
 pub(crate) fn kept_of(kept: [Kept; 4], t: usize) -> Kept
-    ensures { result ≡ keptIn kept t }
+    ensures { result ≡ kept_in kept t }
 {
     if t < 4 { kept[t] } else { Kept::Nothing }
 }
 
 // A ring is being built in this place.
 pub(crate) fn builds_in(kept: Kept, place: usize) -> bool
-    ensures { result ≡ buildsIn kept place }
+    ensures { result ≡ builds_in kept place }
 {
     match kept {
         Kept::Nothing => false,
@@ -24,7 +24,7 @@ pub(crate) fn builds_in(kept: Kept, place: usize) -> bool
 
 // Two rings are being built in one place.
 pub(crate) fn both_build(kept: Kept, other: Kept) -> bool
-    ensures { result ≡ bothBuild kept other }
+    ensures { result ≡ both_build kept other }
 {
     match kept {
         Kept::Nothing => false,
@@ -35,7 +35,7 @@ pub(crate) fn both_build(kept: Kept, other: Kept) -> bool
 
 // A ring is built or held in this place.
 pub(crate) fn keeps_in(kept: Kept, place: usize) -> bool
-    ensures { result ≡ keepsIn kept place }
+    ensures { result ≡ keeps_in kept place }
 {
     match kept {
         Kept::Nothing => false,

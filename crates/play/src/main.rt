@@ -2,9 +2,9 @@
 ghost use Rattle.std.specs.Prelude.{◌≡◌, true, ◌⊎◌, ◌≤◌, length};
 ghost use Rattle.io.specs.Counts.{IsPrefixLen};
 ghost use Rattle.writing.specs.Writing.{page as page_of, whole};
-ghost use Rattle.line.specs.Line.{longestLine, Room};
-ghost use Rattle.player.specs.Player.{endText};
-ghost use Rattle.stand.specs.Stand.{actText};
+ghost use Rattle.line.specs.Line.{longest_line, Room};
+ghost use Rattle.player.specs.Player.{end_text};
+ghost use Rattle.stand.specs.Stand.{act_text};
 
 use cells::PLACE_CELLS;
 use libc::{STDIN_FILENO, STDOUT_FILENO};
@@ -27,7 +27,7 @@ fn write_page(page: &[u8], at: usize) -> bool {
 
 // Writes a page that has no room for another line, and begins it anew.
 fn turn_page(page: &[u8], at: usize) -> usize
-    requires { longestLine ≤ length page.now }
+    requires { longest_line ≤ length page.now }
     ensures { Room page.now result }
 {
     if at <= page.len() - LONGEST_LINE {
@@ -40,14 +40,14 @@ fn turn_page(page: &[u8], at: usize) -> usize
 // With room for a line, what is printed is put on the page whole; and so at the text's end.
 fn act_whole(stand: Stand, turn: Turn, pool: &mut [u64], page: &mut [u8]) -> Stand
     requires { Room page.old stand.at }
-    ensures { page_of page.new result.at ≡ whole page.old stand.at (actText stand turn pool.old) }
+    ensures { page_of page.new result.at ≡ whole page.old stand.at (act_text stand turn pool.old) }
 {
     stand.act(turn, pool, page)
 }
 
 fn close_whole(player: Player, page: &mut [u8], at: usize) -> usize
     requires { Room page.old at }
-    ensures { page_of page.new result ≡ whole page.old at (endText player) }
+    ensures { page_of page.new result ≡ whole page.old at (end_text player) }
 {
     close(player, page, at)
 }

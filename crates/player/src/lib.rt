@@ -1,11 +1,11 @@
 // A session heard from its text: what the next number says, and what is printed then.
 ghost use Rattle.std.specs.Prelude.{◌≡◌};
 ghost use Rattle.writing.specs.Writing.{page as page_of};
-ghost use Rattle.player.specs.Player.{newPlayer, heard as heardOf, listenOf, finishOf, cells_of, doneB, showOf, endsB, closeOf};
+ghost use Rattle.player.specs.Player.{new_player, heard as heard_of, listen_of, finish_of, cells_of, done_b, show_of, ends_b, close_of};
 
 use cells::PLACE_CELLS;
-use core::answer::Answer;
-use core::queue::Queue;
+use parts::answer::Answer;
+use parts::queue::Queue;
 use line::{put_bad, put_call, put_setup};
 use reading::{Reader, Word};
 use session::grammar::{Said, Session};
@@ -27,7 +27,7 @@ pub struct Turn {
 
 impl Player {
     pub fn new() -> Player
-        ensures { result ≡ newPlayer }
+        ensures { result ≡ new_player }
     {
         Player {
             reader: Reader::new(),
@@ -36,7 +36,7 @@ impl Player {
     }
 
     fn heard(self, reader: Reader, word: Word, used: usize) -> Turn
-        ensures { result ≡ heardOf self reader word used }
+        ensures { result ≡ heard_of self reader word used }
     {
         let session = self.session;
         match word {
@@ -72,7 +72,7 @@ impl Player {
 
     // Reads a part of the text up to the end of a number, or all of it.
     pub fn listen(self, part: &[u8]) -> Turn
-        ensures { result ≡ listenOf self part.now }
+        ensures { result ≡ listen_of self part.now }
     {
         let reader = self.reader;
         let read = reader.next(part);
@@ -84,7 +84,7 @@ impl Player {
 
     // The text is at its end.
     pub fn finish(self) -> Turn
-        ensures { result ≡ finishOf self }
+        ensures { result ≡ finish_of self }
     {
         let reader = self.reader;
         let word = reader.end();
@@ -104,7 +104,7 @@ impl Player {
 }
 
 fn is_done(answer: Answer) -> bool
-    ensures { result ≡ doneB answer }
+    ensures { result ≡ done_b answer }
 {
     match answer {
         Answer::Working => false,
@@ -132,7 +132,7 @@ impl Turn {
         page: &mut [u8],
         at: usize,
     ) -> usize
-        ensures { page_of page.new result ≡ showOf self answer count queues page.old at }
+        ensures { page_of page.new result ≡ show_of self answer count queues page.old at }
     {
         let said = self.said;
         match said {
@@ -153,7 +153,7 @@ impl Turn {
 
     // The program ends at a setup that is not done, and at what is no session.
     pub fn ends(self, answer: Answer) -> bool
-        ensures { result ≡ endsB self.said answer }
+        ensures { result ≡ ends_b self.said answer }
     {
         let said = self.said;
         match said {
@@ -170,7 +170,7 @@ impl Turn {
 
 // What the program does at the text's end, after what its last number said: a session that is cut off is none.
 pub fn close(player: Player, page: &mut [u8], at: usize) -> usize
-    ensures { page_of page.new result ≡ closeOf player page.old at }
+    ensures { page_of page.new result ≡ close_of player page.old at }
 {
     let session = player.session;
     if session.is_whole() {

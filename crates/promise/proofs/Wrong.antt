@@ -2,28 +2,28 @@
 -- a resize, which is written down, are reached by playing from setup.
 use Rattle.std.proofs.Common.{◌≡◌, ℕ, ◌+◌, ◌-◌, List, [], ◌∷◌, get_or, replicate, pos, sym, refl, ap, ◌∙◌, arith}
 use lib.Count.{ones, ones_in}
-use Rattle.base.specs.Below.{all_below, anyBelow, firstNot}
-use Rattle.index.specs.Index.{modZ, wrap, plusOf, differenceOf, length_of, behindB, emptyB, fullB, spansB, sameB, cell_of}
-use Rattle.ring.specs.Capacity.{allowedB}
-use Rattle.cells.specs.Cells.{placeCells, standsB, spot, read_of, written_of}
+use Rattle.base.specs.Below.{all_below, any_below, first_not}
+use Rattle.index.specs.Index.{mod_z, wrap, plus_of, difference_of, length_of, behind_b, empty_b, full_b, spans_b, same_b, cell_of}
+use Rattle.ring.specs.Capacity.{allowed_b}
+use Rattle.cells.specs.Cells.{place_cells, stands_b, spot, read_of, written_of}
 use Rattle.ring.specs.declared.Ring.{Ring}
-use Rattle.std.specs.declared.queue.Flavor.TheVariants.{Fifo}
-use Rattle.std.specs.declared.queue.Queue.{Queue}
-use Rattle.std.specs.declared.stage.ResizeStage.TheVariants as Z
-use Rattle.std.specs.declared.stage.PushStage.TheVariants as U
-use Rattle.std.specs.declared.stage.Stage.TheVariants as S
-use Rattle.std.specs.declared.answer.Answer.TheVariants.{Working}
-use Rattle.std.specs.Queues.{zeroIndex}
+use Rattle.parts.specs.declared.queue.Flavor.TheVariants.{Fifo}
+use Rattle.parts.specs.declared.queue.Queue.{Queue}
+use Rattle.parts.specs.declared.stage.ResizeStage.TheVariants as Z
+use Rattle.parts.specs.declared.stage.PushStage.TheVariants as U
+use Rattle.parts.specs.declared.stage.Stage.TheVariants as S
+use Rattle.parts.specs.declared.answer.Answer.TheVariants.{Working}
+use Rattle.parts.specs.Queues.{zero_index}
 use Rattle.gate.specs.declared.Operation.TheVariants.{Push, Length, Steal}
 use Rattle.machine.specs.declared.state.Machine.{Machine}
-use Rattle.machine.specs.State.{After, after, queueAt, withQueue, withStage}
-use Rattle.machine.specs.Sound.{soundB}
-use Rattle.machine.specs.Claim.{freeRing}
-use Rattle.machine.specs.Setup.{freshMachine, setupOf}
-use Rattle.machine.specs.Step.{gateOf, step_of}
-use Rattle.machine.specs.Begin.{beginOf}
+use Rattle.machine.specs.State.{After, after, queue_at, with_queue, with_stage}
+use Rattle.machine.specs.Sound.{sound_b}
+use Rattle.machine.specs.Claim.{free_ring}
+use Rattle.machine.specs.Setup.{fresh_machine, setup_of}
+use Rattle.machine.specs.Step.{gate_of, step_of}
+use Rattle.machine.specs.Begin.{begin_of}
 use Rattle.games.specs.Play.{setup, begin, steps, alone, finish}
-use Rattle.promise.specs.Machines.{Steps, refuses, says-empty, says-retry, stands-still, leaves-stolen, does-all, makes-up, copies-all, writes-refused, tested}
+use Rattle.promise.specs.Machines.{Steps, refuses, says_empty, says_retry, stands_still, leaves_stolen, does_all, makes_up, copies_all, writes_refused, tested}
 
 abbrev at : Steps → After → After
 at w s = w s.called.machine s.cells 0
@@ -48,14 +48,14 @@ abbrev first_cell : After → ℕ
 first_cell a = get_or a.cells 0 0
 
 -- of the place behind the first
-abbrev second-copy : After → ℕ
-second-copy a = get_or a.cells (placeCells + 1) 0
+abbrev second_copy : After → ℕ
+second_copy a = get_or a.cells (place_cells + 1) 0
 
 abbrev front : After → ℕ
-front a = modZ (queueAt a.called.machine 0).front.0 64
+front a = mod_z (queue_at a.called.machine 0).front.0 64
 
 abbrev back : After → ℕ
-back a = modZ (queueAt a.called.machine 0).back.0 64
+back a = mod_z (queue_at a.called.machine 0).back.0 64
 
 -- ---- states: a thread that is idle; a push begun; about to store its back; a length about to be answered; a steal about to exchange for job 7
 
@@ -77,21 +77,21 @@ stealing = steps 0 5 (begin 0 (Steal 0) (alone 0 (Push 7) (setup (Fifo ∷ []) 1
 -- jobs 5 and 6 stand in a ring of 64 cells; a push has begun to copy them into one of 128
 abbrev resizing : After
 resizing =
-    let q : Queue = record { flavor = Fifo; front = zeroIndex; back = record { 0 = pos 2 }; ring = (queueAt (freshMachine 1 (Fifo ∷ []) 2) 0).ring } in
+    let q : Queue = record { flavor = Fifo; front = zero_index; back = record { 0 = pos 2 }; ring = (queue_at (fresh_machine 1 (Fifo ∷ []) 2) 0).ring } in
     let ring : Ring = record { number = record { 0 = 1 }; place = record { 0 = 1 }; capacity = 128 } in
-    after (withStage (withQueue (freshMachine 1 (Fifo ∷ []) 2) 0 q) 0 (S.Push 7 (U.Resize q.back (Z.Copy q.back zeroIndex ring)))) Working
-    (5 ∷ 6 ∷ replicate (placeCells + placeCells - 2) 0)
+    after (with_stage (with_queue (fresh_machine 1 (Fifo ∷ []) 2) 0 q) 0 (S.Push 7 (U.Resize q.back (Z.Copy q.back zero_index ring)))) Working
+    (5 ∷ 6 ∷ replicate (place_cells + place_cells - 2) 0)
 
 -- ---- what is promised there, and what those machines show that play on
 
 pub promised : (kind (at tested begun) ≡ 0) × (back (at tested written) ≡ 1) × (front (at tested stealing) ≡ 1) × (length (at tested asked) ≡ 0) × (first_cell (at tested idling) ≡ 0)
-    × (second-copy (at tested resizing) ≡ 0)
-unfolding steps finish all_below anyBelow firstNot wrap plusOf differenceOf length_of behindB emptyB fullB spansB sameB cell_of allowedB standsB spot read_of written_of soundB freeRing setupOf gateOf step_of beginOf ones ones_in
+    × (second_copy (at tested resizing) ≡ 0)
+unfolding steps finish all_below any_below first_not wrap plus_of difference_of length_of behind_b empty_b full_b spans_b same_b cell_of allowed_b stands_b spot read_of written_of sound_b free_ring setup_of gate_of step_of begin_of ones ones_in
 promised = (refl, refl, refl, refl, refl, refl)
 
-pub shown : (back (at stands-still written) ≡ 0) × (front (at leaves-stolen stealing) ≡ 0) × (kind (at does-all begun) ≡ 1) × (first_cell (at writes-refused idling) ≡ 7)
-    × (length (at makes-up asked) ≡ 7) × (second-copy (at copies-all resizing) ≡ 6)
-unfolding steps finish all_below anyBelow firstNot wrap plusOf differenceOf length_of behindB emptyB fullB spansB sameB cell_of allowedB standsB spot read_of written_of soundB freeRing setupOf gateOf step_of beginOf ones ones_in
+pub shown : (back (at stands_still written) ≡ 0) × (front (at leaves_stolen stealing) ≡ 0) × (kind (at does_all begun) ≡ 1) × (first_cell (at writes_refused idling) ≡ 7)
+    × (length (at makes_up asked) ≡ 7) × (second_copy (at copies_all resizing) ≡ 6)
+unfolding steps finish all_below any_below first_not wrap plus_of difference_of length_of behind_b empty_b full_b spans_b same_b cell_of allowed_b stands_b spot read_of written_of sound_b free_ring setup_of gate_of step_of begin_of ones ones_in
 shown = (refl, refl, refl, refl, refl, refl)
 
 -- ---- each is shut out
@@ -99,26 +99,26 @@ shown = (refl, refl, refl, refl, refl, refl)
 pub always_refuses : Keeps refuses → ⊥
 always_refuses = shut_out refuses kind begun 10 0 refl promised.0 (λ e. omega arith)
 
-pub always-empty : Keeps says-empty → ⊥
-always-empty = shut_out says-empty kind begun 4 0 refl promised.0 (λ e. omega arith)
+pub always_empty : Keeps says_empty → ⊥
+always_empty = shut_out says_empty kind begun 4 0 refl promised.0 (λ e. omega arith)
 
-pub always-retry : Keeps says-retry → ⊥
-always-retry = shut_out says-retry kind begun 6 0 refl promised.0 (λ e. omega arith)
+pub always_retry : Keeps says_retry → ⊥
+always_retry = shut_out says_retry kind begun 6 0 refl promised.0 (λ e. omega arith)
 
-pub never-moves : Keeps stands-still → ⊥
-never-moves = shut_out stands-still back written 0 1 shown.0 promised.1 (λ e. omega arith)
+pub never_moves : Keeps stands_still → ⊥
+never_moves = shut_out stands_still back written 0 1 shown.0 promised.1 (λ e. omega arith)
 
-pub copies-jobs : Keeps leaves-stolen → ⊥
-copies-jobs = shut_out leaves-stolen front stealing 0 1 shown.1 promised.2 (λ e. omega arith)
+pub copies_jobs : Keeps leaves_stolen → ⊥
+copies_jobs = shut_out leaves_stolen front stealing 0 1 shown.1 promised.2 (λ e. omega arith)
 
-pub all-at-once : Keeps does-all → ⊥
-all-at-once = shut_out does-all kind begun 1 0 shown.2 promised.0 (λ e. omega arith)
+pub all_at_once : Keeps does_all → ⊥
+all_at_once = shut_out does_all kind begun 1 0 shown.2 promised.0 (λ e. omega arith)
 
-pub makes-up-lengths : Keeps makes-up → ⊥
-makes-up-lengths = shut_out makes-up length asked 7 0 shown.4 promised.3 (λ e. omega arith)
+pub makes_up_lengths : Keeps makes_up → ⊥
+makes_up_lengths = shut_out makes_up length asked 7 0 shown.4 promised.3 (λ e. omega arith)
 
-pub changes-refused : Keeps writes-refused → ⊥
-changes-refused = shut_out writes-refused first_cell idling 7 0 shown.3 promised.4 (λ e. omega arith)
+pub changes_refused : Keeps writes_refused → ⊥
+changes_refused = shut_out writes_refused first_cell idling 7 0 shown.3 promised.4 (λ e. omega arith)
 
-pub copies-whole-rings : Keeps copies-all → ⊥
-copies-whole-rings = shut_out copies-all second-copy resizing 6 0 shown.5 promised.5 (λ e. omega arith)
+pub copies_whole_rings : Keeps copies_all → ⊥
+copies_whole_rings = shut_out copies_all second_copy resizing 6 0 shown.5 promised.5 (λ e. omega arith)

@@ -15,21 +15,21 @@ use Rattle.reading.specs.declared.Grown.{Grown}
 use Rattle.reading.specs.declared.Grown.TheVariants.{To, TooLarge}
 
 -- `0` to `9`; the white space on a line: tab, vertical tab, form feed, carriage return, space
-abbrev pub digitB : ℕ → Bool
-digitB b = nat_le 48 b && nat_le b 57
+abbrev pub digit_b : ℕ → Bool
+digit_b b = nat_le 48 b && nat_le b 57
 
-abbrev pub blankB : ℕ → Bool
-blankB b = nat_le 9 b && nat_le b 13
+abbrev pub blank_b : ℕ → Bool
+blank_b b = nat_le 9 b && nat_le b 13
 
 unfoldable pub class_of : ℕ → Class
 class_of b =
-    pick (b == 10) LineEnd (pick (b == 32) Space (pick (b == 35) Hash (pick (blankB b) Space (pick (digitB b) (Digit (b - 48)) Other))))
+    pick (b == 10) LineEnd (pick (b == 32) Space (pick (b == 35) Hash (pick (blank_b b) Space (pick (digit_b b) (Digit (b - 48)) Other))))
 
-unfoldable pub grownOf : ℕ → ℕ → Grown
-grownOf n d = pick (nat_lt (n * 10 + d) (2 ^ 64)) (To (n * 10 + d)) TooLarge
+unfoldable pub grown_of : ℕ → ℕ → Grown
+grown_of n d = pick (nat_lt (n * 10 + d) (2 ^ 64)) (To (n * 10 + d)) TooLarge
 
-abbrev pub newReader : Reader
-newReader = record { within = W.Space; place = 0; start = 0; value = 0 }
+abbrev pub new_reader : Reader
+new_reader = record { within = W.Space; place = 0; start = 0; value = 0 }
 
 -- after one byte more
 abbrev pub after : Reader → Within → ℕ → ℕ → Word → Heard
@@ -42,36 +42,36 @@ abbrev pub grew : Reader → ℕ → Grown → Heard
 grew r start (To n) = after r W.Number start n R.Nothing
 grew r start TooLarge = after r W.Number start 0 R.Wrong
 
-abbrev pub inSpace : Reader → Class → Heard
-inSpace r LineEnd = after r W.Space 0 0 R.Nothing
-inSpace r Space = after r W.Space 0 0 R.Nothing
-inSpace r Hash = after r W.Comment 0 0 R.Nothing
-inSpace r (Digit d) = grew r r.place (grownOf 0 d)
-inSpace r Other = after r W.Number r.place 0 R.Wrong
+abbrev pub in_space : Reader → Class → Heard
+in_space r LineEnd = after r W.Space 0 0 R.Nothing
+in_space r Space = after r W.Space 0 0 R.Nothing
+in_space r Hash = after r W.Comment 0 0 R.Nothing
+in_space r (Digit d) = grew r r.place (grown_of 0 d)
+in_space r Other = after r W.Number r.place 0 R.Wrong
 
 -- the start is kept past the number's end: the number may yet turn out wrong
-abbrev pub inNumber : Reader → Class → Heard
-inNumber r LineEnd = after r W.Space r.start 0 (R.Number r.value)
-inNumber r Space = after r W.Space r.start 0 (R.Number r.value)
-inNumber r Hash = after r W.Comment r.start 0 (R.Number r.value)
-inNumber r (Digit d) = grew r r.start (grownOf r.value d)
-inNumber r Other = after r W.Number r.start 0 R.Wrong
+abbrev pub in_number : Reader → Class → Heard
+in_number r LineEnd = after r W.Space r.start 0 (R.Number r.value)
+in_number r Space = after r W.Space r.start 0 (R.Number r.value)
+in_number r Hash = after r W.Comment r.start 0 (R.Number r.value)
+in_number r (Digit d) = grew r r.start (grown_of r.value d)
+in_number r Other = after r W.Number r.start 0 R.Wrong
 
-abbrev pub inComment : Reader → Class → Heard
-inComment r LineEnd = after r W.Space 0 0 R.Nothing
-inComment r Space = after r W.Comment 0 0 R.Nothing
-inComment r Hash = after r W.Comment 0 0 R.Nothing
-inComment r (Digit d) = after r W.Comment 0 0 R.Nothing
-inComment r Other = after r W.Comment 0 0 R.Nothing
+abbrev pub in_comment : Reader → Class → Heard
+in_comment r LineEnd = after r W.Space 0 0 R.Nothing
+in_comment r Space = after r W.Comment 0 0 R.Nothing
+in_comment r Hash = after r W.Comment 0 0 R.Nothing
+in_comment r (Digit d) = after r W.Comment 0 0 R.Nothing
+in_comment r Other = after r W.Comment 0 0 R.Nothing
 
-abbrev pub heardIn : Within → Reader → Class → Heard
-heardIn W.Space r c = inSpace r c
-heardIn W.Number r c = inNumber r c
-heardIn W.Comment r c = inComment r c
+abbrev pub heard_in : Within → Reader → Class → Heard
+heard_in W.Space r c = in_space r c
+heard_in W.Number r c = in_number r c
+heard_in W.Comment r c = in_comment r c
 
 -- one byte more
-unfoldable pub heardOf : Reader → ℕ → Heard
-heardOf r b = heardIn r.within r (class_of b)
+unfoldable pub heard_of : Reader → ℕ → Heard
+heard_of r b = heard_in r.within r (class_of b)
 
 -- the text's end ends a number too
 abbrev pub end_in : Within → ℕ → Word
@@ -82,16 +82,16 @@ end_in W.Comment n = R.Nothing
 abbrev pub end_of : Reader → Word
 end_of r = end_in r.within r.value
 
-abbrev pub unlessWord : Word → Read → Read → Read
-unlessWord R.Nothing later now = later
-unlessWord (R.Number n) later now = now
-unlessWord R.Wrong later now = now
+abbrev pub unless_word : Word → Read → Read → Read
+unless_word R.Nothing later now = later
+unless_word (R.Number n) later now = now
+unless_word R.Wrong later now = now
 
 -- a part of the text, from its i-th byte on: up to the byte that ends a word, or all of it
-unfoldable pub readFrom : Reader → List ℕ → ℕ → Read
-readFrom r [] i = record { heard = record { reader = r; word = R.Nothing }; used = i }
-readFrom r (b ∷ bs) i =
-    unlessWord (heardOf r b).word (readFrom (heardOf r b).reader bs (i + 1)) (record { heard = heardOf r b; used = i + 1 })
+unfoldable pub read_from : Reader → List ℕ → ℕ → Read
+read_from r [] i = record { heard = record { reader = r; word = R.Nothing }; used = i }
+read_from r (b ∷ bs) i =
+    unless_word (heard_of r b).word (read_from (heard_of r b).reader bs (i + 1)) (record { heard = heard_of r b; used = i + 1 })
 
 abbrev pub read_of : Reader → List ℕ → Read
-read_of r part = readFrom r part 0
+read_of r part = read_from r part 0

@@ -1,6 +1,6 @@
 // Numbers in a text that comes in parts. White space and comments part them; a comment goes from `#` to the end of its line.
 ghost use Rattle.std.specs.Prelude.{◌≡◌};
-ghost use Rattle.reading.specs.Reading.{digitB, blankB, class_of, grownOf, newReader, after as after_of, grew, inSpace, inNumber, inComment, heardOf, end_of, read_of};
+ghost use Rattle.reading.specs.Reading.{digit_b, blank_b, class_of, grown_of, new_reader, after as after_of, grew, in_space, in_number, in_comment, heard_of, end_of, read_of};
 
 // What the reader stands in, between two bytes.
 #[derive(Drop)]
@@ -63,13 +63,13 @@ fn wide(x: u8) -> u64
 }
 
 fn is_digit(byte: u8) -> bool
-    ensures { result ≡ digitB byte }
+    ensures { result ≡ digit_b byte }
 {
     (b'0' <= byte) & (byte <= b'9')
 }
 
 fn is_blank(byte: u8) -> bool
-    ensures { result ≡ blankB byte }
+    ensures { result ≡ blank_b byte }
 {
     (9 <= byte) & (byte <= 13)
 }
@@ -96,7 +96,7 @@ pub fn class_of(byte: u8) -> Class
 }
 
 pub fn with_digit(value: u64, digit: u64) -> Grown
-    ensures { result ≡ grownOf value digit }
+    ensures { result ≡ grown_of value digit }
 {
     if u64::MAX / 10 < value {
         return Grown::TooLarge;
@@ -110,7 +110,7 @@ pub fn with_digit(value: u64, digit: u64) -> Grown
 
 impl Reader {
     pub fn new() -> Reader
-        ensures { result ≡ newReader }
+        ensures { result ≡ new_reader }
     {
         Reader {
             within: Within::Space,
@@ -136,7 +136,7 @@ impl Reader {
 
     // One digit more of the number that began at start.
     fn digit(self, start: u64, before: u64, digit: u64) -> Heard
-        ensures { result ≡ grew self start (grownOf before digit) }
+        ensures { result ≡ grew self start (grown_of before digit) }
     {
         match with_digit(before, digit) {
             Grown::To(value) => self.after(Within::Number, start, value, Word::Nothing),
@@ -145,7 +145,7 @@ impl Reader {
     }
 
     fn in_space(self, class: Class) -> Heard
-        ensures { result ≡ inSpace self class }
+        ensures { result ≡ in_space self class }
     {
         match class {
             Class::LineEnd => self.after(Within::Space, 0, 0, Word::Nothing),
@@ -158,7 +158,7 @@ impl Reader {
 
     // The start is kept past the number's end: the number may yet turn out wrong.
     fn in_number(self, class: Class) -> Heard
-        ensures { result ≡ inNumber self class }
+        ensures { result ≡ in_number self class }
     {
         match class {
             Class::LineEnd => self.after(Within::Space, self.start, 0, Word::Number(self.value)),
@@ -170,7 +170,7 @@ impl Reader {
     }
 
     fn in_comment(self, class: Class) -> Heard
-        ensures { result ≡ inComment self class }
+        ensures { result ≡ in_comment self class }
     {
         match class {
             Class::LineEnd => self.after(Within::Space, 0, 0, Word::Nothing),
@@ -183,7 +183,7 @@ impl Reader {
 
     // One byte more.
     pub fn byte(self, byte: u8) -> Heard
-        ensures { result ≡ heardOf self byte }
+        ensures { result ≡ heard_of self byte }
     {
         let class = class_of(byte);
         let within = self.within;

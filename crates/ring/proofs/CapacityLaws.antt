@@ -1,11 +1,11 @@
--- The capacities: what an allowed one is, twice and half of one, and that the smallest sufficient one is a single number, which `holdingOf` finds.
+-- The capacities: what an allowed one is, twice and half of one, and that the smallest sufficient one is a single number, which `holding_of` finds.
 use Rattle.std.proofs.Common.{◌≡◌, ℕ, zero, suc, ◌*◌, ◌/◌, ◌^◌, ◌<◌, ◌≤◌, Bool, true, false, ◌&&◌, eqb, leb, ◌⊎◌, refl, ap, ◌∙◌, inl, inr, ⊎_elim, le_trans, le_refl, mul_assoc, mul_comm, le_antisymm, pow-suc, arith, lit≤, pow_mono, eq-eqb, eqb-true, le-leb, leb-false, leb-true}
 use lib.Count.{ones, ones_in}
 use borrow.Author.Tests.{lt-leb}
-use Rattle.base.specs.Tests.{pick, le-or-lt, both}
-use Rattle.base.proofs.Powers.{power-of, power-ones}
+use Rattle.base.specs.Tests.{pick, le_or_lt, both}
+use Rattle.base.proofs.Powers.{power_of, power_ones}
 use Rattle.ring.specs.declared.Capacity.TheVariants.{Of, TooLarge}
-use Rattle.ring.specs.Capacity.{smallest, largest, allowedB, twice_of, doubled, holdingOf, Least}
+use Rattle.ring.specs.Capacity.{smallest, largest, allowed_b, twice_of, doubled, holding_of, Least}
 
 -- ---- powers of two
 
@@ -14,29 +14,29 @@ pub power_below : (k j : ℕ) → 2 ^ k < 2 * 2 ^ j → 2 ^ k ≤ 2 ^ j
 power_below k j h =
     ⊎_elim (λ p. pow_mono p)
     (λ p. let q : 2 ^ suc j ≤ 2 ^ k = pow_mono p in let r = pow-suc 2 j in let z : ⊥ = omega arith in absurd z)
-    (le-or-lt k j)
+    (le_or_lt k j)
 
 -- and the power above another is at least twice it
-pub power-above : (k j : ℕ) → 2 ^ k < 2 ^ j → 2 * 2 ^ k ≤ 2 ^ j
-power-above k j h =
+pub power_above : (k j : ℕ) → 2 ^ k < 2 ^ j → 2 * 2 ^ k ≤ 2 ^ j
+power_above k j h =
     ⊎_elim (λ (p : suc k ≤ j). let q : 2 ^ suc k ≤ 2 ^ j = pow_mono p in let r = pow-suc 2 k in omega arith)
     (λ (p : j < suc k). let q : 2 ^ j ≤ 2 ^ k = pow_mono (omega arith) in let z : ⊥ = omega arith in absurd z)
-    (le-or-lt (suc k) j)
+    (le_or_lt (suc k) j)
 
 -- the limits are powers themselves, found by computing
-ones-smallest : ones smallest ≡ 1
+ones_smallest : ones smallest ≡ 1
 unfolding ones ones_in
-ones-smallest = refl
+ones_smallest = refl
 
-ones-largest : ones largest ≡ 1
+ones_largest : ones largest ≡ 1
 unfolding ones ones_in
-ones-largest = refl
+ones_largest = refl
 
-pub smallest-power : (k : ℕ) × (smallest ≡ 2 ^ k)
-smallest-power = power-of smallest ones-smallest
+pub smallest_power : (k : ℕ) × (smallest ≡ 2 ^ k)
+smallest_power = power_of smallest ones_smallest
 
-pub largest-power : (k : ℕ) × (largest ≡ 2 ^ k)
-largest-power = power-of largest ones-largest
+pub largest_power : (k : ℕ) × (largest ≡ 2 ^ k)
+largest_power = power_of largest ones_largest
 
 -- ---- allowed capacities
 
@@ -45,31 +45,31 @@ pub record Allowed (c : ℕ) : Type 0 where
   pub low : smallest ≤ c
   pub high : c ≤ largest
 
-pub allowed-is : (c : ℕ) → allowedB c ≡ true → Allowed c
-unfolding allowedB
-allowed-is c e =
+pub allowed_is : (c : ℕ) → allowed_b c ≡ true → Allowed c
+unfolding allowed_b
+allowed_is c e =
     let p = both (eqb (ones c) 1) (leb smallest c && leb c largest) e in
     let q = both (leb smallest c) (leb c largest) p.1 in
-    record { power = power-of c (eqb-true (ones c) 1 p.0); low = leb-true smallest c q.0; high = leb-true c largest q.1 }
+    record { power = power_of c (eqb-true (ones c) 1 p.0); low = leb-true smallest c q.0; high = leb-true c largest q.1 }
 
-pub is-allowed : (c : ℕ) → Allowed c → allowedB c ≡ true
-unfolding allowedB
-is-allowed c a =
-    let e : ones c ≡ 1 = ap ones a.power.1 ∙ power-ones a.power.0 in
+pub is_allowed : (c : ℕ) → Allowed c → allowed_b c ≡ true
+unfolding allowed_b
+is_allowed c a =
+    let e : ones c ≡ 1 = ap ones a.power.1 ∙ power_ones a.power.0 in
     rw (eq-eqb (ones c) 1 e, le-leb smallest c a.low, le-leb c largest a.high)
 
-pub smallest-allowed : allowedB smallest ≡ true
-smallest-allowed = is-allowed smallest (record { power = smallest-power; low = omega arith; high = omega arith })
+pub smallest_allowed : allowed_b smallest ≡ true
+smallest_allowed = is_allowed smallest (record { power = smallest_power; low = omega arith; high = omega arith })
 
-pub largest-allowed : allowedB largest ≡ true
-largest-allowed = is-allowed largest (record { power = largest-power; low = omega arith; high = omega arith })
+pub largest_allowed : allowed_b largest ≡ true
+largest_allowed = is_allowed largest (record { power = largest_power; low = omega arith; high = omega arith })
 
 -- so it divides 2 ^ 64
-pub allowed-word : (c : ℕ) → allowedB c ≡ true → (k : ℕ) × (c ≡ 2 ^ k) × (k ≤ 64)
-allowed-word c e =
-    let a = allowed-is c e in
+pub allowed_word : (c : ℕ) → allowed_b c ≡ true → (k : ℕ) × (c ≡ 2 ^ k) × (k ≤ 64)
+allowed_word c e =
+    let a = allowed_is c e in
     let k = a.power.0 in
-    (k, a.power.1, ⊎_elim (λ (h : k ≤ 64). h) (λ (h : 64 < k). absurd (above k a.power.1 a.high h)) (le-or-lt k 64))
+    (k, a.power.1, ⊎_elim (λ (h : k ≤ 64). h) (λ (h : 64 < k). absurd (above k a.power.1 a.high h)) (le_or_lt k 64))
   where
     above : (k : ℕ) → c ≡ 2 ^ k → c ≤ largest → 64 < k → ⊥
     above k p u h =
@@ -79,48 +79,48 @@ allowed-word c e =
 
 -- ---- twice and half
 
-pub twice-below : (c : ℕ) → 2 * c ≤ largest → twice_of c ≡ Of (2 * c)
+pub twice_below : (c : ℕ) → 2 * c ≤ largest → twice_of c ≡ Of (2 * c)
 unfolding twice_of
-twice-below c h = rw (le-leb (2 * c) largest h)
+twice_below c h = rw (le-leb (2 * c) largest h)
 
-pub twice-above : (c : ℕ) → largest < 2 * c → twice_of c ≡ TooLarge
+pub twice_above : (c : ℕ) → largest < 2 * c → twice_of c ≡ TooLarge
 unfolding twice_of
-twice-above c h = rw (lt-leb (2 * c) largest h)
+twice_above c h = rw (lt-leb (2 * c) largest h)
 
 -- of an allowed capacity below the largest
-pub twice-allowed : (c : ℕ) → allowedB c ≡ true → c < largest → (twice_of c ≡ Of (2 * c)) × (allowedB (2 * c) ≡ true)
-twice-allowed c e h =
-    let a = allowed-is c e in
+pub twice_allowed : (c : ℕ) → allowed_b c ≡ true → c < largest → (twice_of c ≡ Of (2 * c)) × (allowed_b (2 * c) ≡ true)
+twice_allowed c e h =
+    let a = allowed_is c e in
     let k = a.power.0 in
-    let l = largest-power in
+    let l = largest_power in
     let p = a.power.1 in
     let t = l.1 in
     let s = pow-suc 2 k in
-    let u = power-above k l.0 (omega arith) in
+    let u = power_above k l.0 (omega arith) in
     let v : 2 * c ≤ largest = omega arith in
-    (twice-below c v, is-allowed (2 * c) (record { power = (suc k, omega arith); low = omega arith; high = v }))
+    (twice_below c v, is_allowed (2 * c) (record { power = (suc k, omega arith); low = omega arith; high = v }))
 
-pub twice-largest : twice_of largest ≡ TooLarge
-twice-largest = twice-above largest (omega arith)
+pub twice_largest : twice_of largest ≡ TooLarge
+twice_largest = twice_above largest (omega arith)
 
 -- of an allowed capacity above the smallest
-pub half-allowed : (c : ℕ) → allowedB c ≡ true → smallest < c → allowedB (c / 2) ≡ true
-half-allowed c e h = let a = allowed-is c e in go a.power.0 a.power.1 a.high
+pub half_allowed : (c : ℕ) → allowed_b c ≡ true → smallest < c → allowed_b (c / 2) ≡ true
+half_allowed c e h = let a = allowed_is c e in go a.power.0 a.power.1 a.high
   where
-    go : (k : ℕ) → c ≡ 2 ^ k → c ≤ largest → allowedB (c / 2) ≡ true
+    go : (k : ℕ) → c ≡ 2 ^ k → c ≤ largest → allowed_b (c / 2) ≡ true
     go zero p u = let z : ⊥ = omega arith in absurd z
     go (suc k) p u =
         let q = pow-suc 2 k in
-        let l = smallest-power in
+        let l = smallest_power in
         let t = l.1 in
-        let s = power-above l.0 (suc k) (omega arith) in
-        is-allowed (c / 2) (record { power = (k, omega arith); low = omega arith; high = omega arith })
+        let s = power_above l.0 (suc k) (omega arith) in
+        is_allowed (c / 2) (record { power = (k, omega arith); low = omega arith; high = omega arith })
 
 -- ---- the smallest that holds n jobs
 
 -- no two answers
-pub least-one : (n c d : ℕ) → Least n c → Least n d → c ≡ d
-least-one n c d p q = le_antisymm (no_more n c d p q) (no_more n d c q p)
+pub least_one : (n c d : ℕ) → Least n c → Least n d → c ≡ d
+least_one n c d p q = le_antisymm (no_more n c d p q) (no_more n d c q p)
   where
     no_more : (n c d : ℕ) → Least n c → Least n d → c ≤ d
     no_more n c d p q =
@@ -128,62 +128,62 @@ least-one n c d p q = le_antisymm (no_more n c d p q) (no_more n d c q p)
         rw e (p.least q.power.0 (rw e at q.low) (rw e at q.holds))
 
 -- what a search finds that starts at the smallest and never doubles what is enough
-pub least-of : (n k c : ℕ) → c ≡ 2 ^ k → smallest ≤ c → n ≤ c → (c ≡ smallest) ⊎ (c < 2 * n) → Least n c
-least-of n k c e l h w = record {
+pub least_of : (n k c : ℕ) → c ≡ 2 ^ k → smallest ≤ c → n ≤ c → (c ≡ smallest) ⊎ (c < 2 * n) → Least n c
+least_of n k c e l h w = record {
   power = (k, e);
   low = l;
   holds = h;
   least = λ j lo hi. ⊎_elim (λ p. omega arith) (λ p. rw e (power_below k j (let q : 2 ^ k < 2 * n = rw e at p in omega arith))) w;
 }
 
-doubled-least : (f n k c : ℕ) → c ≡ 2 ^ k → smallest ≤ c → n ≤ c * 2 ^ f → (c ≡ smallest) ⊎ (c < 2 * n) → Least n (doubled f c n)
+doubled_least : (f n k c : ℕ) → c ≡ 2 ^ k → smallest ≤ c → n ≤ c * 2 ^ f → (c ≡ smallest) ⊎ (c < 2 * n) → Least n (doubled f c n)
 unfolding doubled
-doubled-least zero n k c e l h w = least-of n k c e l (omega arith) w
-doubled-least (suc f) n k c e l h w = go (λ l' h' w'. doubled-least f n (suc k) (c * 2) (rw (e, pow-suc 2 k)) l' h' w') (leb n c) refl
+doubled_least zero n k c e l h w = least_of n k c e l (omega arith) w
+doubled_least (suc f) n k c e l h w = go (λ l' h' w'. doubled_least f n (suc k) (c * 2) (rw (e, pow-suc 2 k)) l' h' w') (leb n c) refl
   where
     go : (smallest ≤ c * 2 → n ≤ c * 2 * 2 ^ f → (c * 2 ≡ smallest) ⊎ (c * 2 < 2 * n) → Least n (doubled f (c * 2) n))
         → (b : Bool) → leb n c ≡ b → Least n (pick b c (doubled f (c * 2) n))
-    go more true t = least-of n k c e l (leb-true n c t) w
+    go more true t = least_of n k c e l (leb-true n c t) w
     go more false t =
         let p = leb-false n c t in
         more (omega arith) (rw (mul_assoc c 2 (2 ^ f), mul_comm 2 (2 ^ f), ← pow-suc 2 f) h) (inr (omega arith))
 
-pub holding-least : (n : ℕ) → n ≤ largest → (c : ℕ) × (holdingOf n ≡ Of c) × Least n c
-unfolding holdingOf
-holding-least n h =
-    let l = smallest-power in (
+pub holding_least : (n : ℕ) → n ≤ largest → (c : ℕ) × (holding_of n ≡ Of c) × Least n c
+unfolding holding_of
+holding_least n h =
+    let l = smallest_power in (
       doubled 58 smallest n,
       rw (le-leb n largest h),
-      doubled-least 58 n l.0 smallest l.1 (le_refl smallest) (le_trans h (lit≤ tt)) (inl refl),
+      doubled_least 58 n l.0 smallest l.1 (le_refl smallest) (le_trans h (lit≤ tt)) (inl refl),
     )
 
-pub holding-is : (n c : ℕ) → n ≤ largest → Least n c → holdingOf n ≡ Of c
-holding-is n c h p = let q = holding-least n h in q.1 ∙ ap Of (least-one n q.0 c q.2 p)
+pub holding_is : (n c : ℕ) → n ≤ largest → Least n c → holding_of n ≡ Of c
+holding_is n c h p = let q = holding_least n h in q.1 ∙ ap Of (least_one n q.0 c q.2 p)
 
-pub holding-over : (n : ℕ) → largest < n → holdingOf n ≡ TooLarge
-unfolding holdingOf
-holding-over n h = rw (lt-leb n largest h)
+pub holding_over : (n : ℕ) → largest < n → holding_of n ≡ TooLarge
+unfolding holding_of
+holding_over n h = rw (lt-leb n largest h)
 
 -- the smallest that holds n is allowed
-pub least-allowed : (n c : ℕ) → n ≤ largest → Least n c → allowedB c ≡ true
-least-allowed n c h p =
-    let l = largest-power in
+pub least_allowed : (n c : ℕ) → n ≤ largest → Least n c → allowed_b c ≡ true
+least_allowed n c h p =
+    let l = largest_power in
     let t = l.1 in
     let u = p.least l.0 (omega arith) (omega arith) in
-    is-allowed c (record { power = p.power; low = p.low; high = omega arith })
+    is_allowed c (record { power = p.power; low = p.low; high = omega arith })
 
--- so whatever `holdingOf` answers holds n and is allowed
-pub holding-allowed : (n c : ℕ) → holdingOf n ≡ Of c → Least n c × (allowedB c ≡ true)
-holding-allowed n c e = ⊎_elim
+-- so whatever `holding_of` answers holds n and is allowed
+pub holding_allowed : (n c : ℕ) → holding_of n ≡ Of c → Least n c × (allowed_b c ≡ true)
+holding_allowed n c e = ⊎_elim
     (λ (h : n ≤ largest).
-    let q = holding-least n h in
+    let q = holding_least n h in
     let s : Of q.0 ≡ Of c = (let r = q.1 in cc) in
     let t : q.0 ≡ c = cc in
     let p : Least n c = rw t at q.2 in
-    (p, least-allowed n c h p))
+    (p, least_allowed n c h p))
     (λ (h : largest < n).
-    let r = holding-over n h in
+    let r = holding_over n h in
     let w : ◌≡◌ {A = ℕ} 0 1 = cc in
     let z : ⊥ = omega arith in
     absurd z)
-    (le-or-lt n largest)
+    (le_or_lt n largest)

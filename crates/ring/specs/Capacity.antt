@@ -12,8 +12,8 @@ abbrev pub largest : ℕ
 largest = 256
 
 -- a number with exactly one bit set, within the limits
-unfoldable pub allowedB : ℕ → Bool
-allowedB c = count_ones c == 1 && (nat_le smallest c && nat_le c largest)
+unfoldable pub allowed_b : ℕ → Bool
+allowed_b c = count_ones c == 1 && (nat_le smallest c && nat_le c largest)
 
 -- a capacity, unless it is above the largest
 abbrev pub up_to : ℕ → Capacity
@@ -28,8 +28,8 @@ doubled zero c n = c
 doubled (suc k) c n = pick (nat_le n c) c (doubled k (c * 2) n)
 
 -- the smallest capacity that holds n jobs, by doubling the smallest one
-unfoldable pub holdingOf : ℕ → Capacity
-holdingOf n = pick (nat_le n largest) (Of (doubled 58 smallest n)) TooLarge
+unfoldable pub holding_of : ℕ → Capacity
+holding_of n = pick (nat_le n largest) (Of (doubled 58 smallest n)) TooLarge
 
 -- what "the smallest that holds n" means: no two numbers are that
 pub record Least (n c : ℕ) : Type 0 where

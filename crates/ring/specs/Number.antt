@@ -2,5 +2,5 @@
 use Rattle.std.specs.Prelude.{◌+◌, ◌%◌, ◌^◌}
 use Rattle.ring.specs.declared.RingNumber.{RingNumber}
 
-abbrev pub nextNumber : RingNumber → RingNumber
-nextNumber n = record { 0 = (n.0 + 1) % 2 ^ 64 }
+abbrev pub next_number : RingNumber → RingNumber
+next_number n = record { 0 = (n.0 + 1) % 2 ^ 64 }

@@ -1,7 +1,7 @@
 // A ring: its number, its place in the pool, its capacity; and the capacities.
 ghost use Rattle.std.specs.Prelude.{◌≡◌, ◌+◌, ◌/◌, nat_le};
-ghost use Rattle.ring.specs.Capacity.{allowedB, twice_of, holdingOf};
-ghost use Rattle.ring.specs.Number.{nextNumber};
+ghost use Rattle.ring.specs.Capacity.{allowed_b, twice_of, holding_of};
+ghost use Rattle.ring.specs.Number.{next_number};
 
 // Counts up, and is never used again.
 #[derive(Drop)]
@@ -28,7 +28,7 @@ pub enum Capacity {
 impl RingNumber {
     // The number to give after this one.
     pub fn next(self) -> RingNumber
-        ensures { result ≡ nextNumber self }
+        ensures { result ≡ next_number self }
     {
         RingNumber(std::num::wrapping_add_u64(self.0, 1))
     }
@@ -41,7 +41,7 @@ impl Ring {
 
     // A ring may have this capacity: exactly one bit set, and in range.
     pub fn allowed(capacity: usize) -> bool
-        ensures { result ≡ allowedB capacity }
+        ensures { result ≡ allowed_b capacity }
     {
         if usize::count_ones(capacity) != 1 {
             return false;
@@ -82,7 +82,7 @@ impl Ring {
 
     // The smallest capacity that holds so many jobs and so many more, found by doubling.
     pub fn holding(length: u64, more: u64) -> Capacity
-        ensures { result ≡ holdingOf (length + more) }
+        ensures { result ≡ holding_of (length + more) }
     {
         if !Ring::holds(Ring::LARGEST, length, more) {
             return Capacity::TooLarge;

@@ -1,9 +1,9 @@
 // What the numbers of a session say: the place count, the queue count, a flavour for each queue; then calls of four numbers.
 ghost use Rattle.std.specs.Prelude.{◌≡◌};
 ghost use Rattle.kinds.specs.Kinds.{kind_of};
-ghost use Rattle.session.specs.Grammar.{flavorsOf, newSession, wholeB, to as toOf, wrong as wrongOf, withPlaces, withFlavor, flavorsRead, kindHeard, unusedB, flavorHeard, sourceHeard, operandHeard, hearOf};
+ghost use Rattle.session.specs.Grammar.{flavors_of, new_session, whole_b, to as toOf, wrong as wrongOf, with_places, with_flavor, flavors_read, kind_heard, unused_b, flavor_heard, source_heard, operand_heard, hear_of};
 
-use core::queue::{Flavor, flavor_of};
+use parts::queue::{Flavor, flavor_of};
 use gate::Request;
 use kinds::{Kind, KindRead, has_operand, has_source, kind_of, request_of};
 use sound::MOST_QUEUES;
@@ -57,14 +57,14 @@ pub struct Told {
 
 // An unused number that is not 0.
 fn is_unused(number: u64, used: bool) -> bool
-    ensures { result ≡ unusedB number used }
+    ensures { result ≡ unused_b number used }
 {
     (number != 0) & !used
 }
 
 impl Session {
     pub fn new() -> Session
-        ensures { result ≡ newSession }
+        ensures { result ≡ new_session }
     {
         Session {
             awaiting: Awaiting::Places,
@@ -75,7 +75,7 @@ impl Session {
 
     // The flavours as setup takes them.
     pub fn all_flavors(self) -> [Flavor; 4]
-        ensures { result ≡ flavorsOf self }
+        ensures { result ≡ flavors_of self }
     {
         let given = self.flavors;
         [
@@ -88,7 +88,7 @@ impl Session {
 
     // At a call's beginning: the text may end here.
     pub fn is_whole(self) -> bool
-        ensures { result ≡ wholeB self.awaiting }
+        ensures { result ≡ whole_b self.awaiting }
     {
         let awaiting = self.awaiting;
         match awaiting {
@@ -129,7 +129,7 @@ impl Session {
 
     // So many flavours are read: another one, or the setup.
     fn flavors_read(self, queues: u64, read: u64) -> Told
-        ensures { result ≡ flavorsRead self queues read }
+        ensures { result ≡ flavors_read self queues read }
     {
         if read < queues {
             return self.to(Awaiting::Flavor { queues, read }, Said::Nothing);
@@ -143,14 +143,14 @@ impl Session {
     }
 
     fn with_places(mut self, places: u64) -> Session
-        ensures { result ≡ withPlaces self places }
+        ensures { result ≡ with_places self places }
     {
         self.places = places;
         self
     }
 
     fn with_flavor(mut self, read: u64, number: u64) -> Session
-        ensures { result ≡ withFlavor self read number }
+        ensures { result ≡ with_flavor self read number }
     {
         let at = read as usize;
         if at < MOST_QUEUES {
@@ -160,7 +160,7 @@ impl Session {
     }
 
     fn hear_flavor(self, queues: u64, read: u64, number: u64) -> Told
-        ensures { result ≡ flavorHeard self queues read number }
+        ensures { result ≡ flavor_heard self queues read number }
     {
         if 1 < number {
             return self.wrong();
@@ -170,7 +170,7 @@ impl Session {
     }
 
     fn hear_kind(self, thread: u64, number: u64) -> Told
-        ensures { result ≡ kindHeard self thread (kind_of number) }
+        ensures { result ≡ kind_heard self thread (kind_of number) }
     {
         match kind_of(number) {
             KindRead::Kind(kind) => self.to(Awaiting::Source { thread, kind }, Said::Nothing),
@@ -179,7 +179,7 @@ impl Session {
     }
 
     fn hear_source(self, thread: u64, kind: Kind, number: u64) -> Told
-        ensures { result ≡ sourceHeard self thread kind number }
+        ensures { result ≡ source_heard self thread kind number }
     {
         if is_unused(number, has_source(kind)) {
             return self.wrong();
@@ -195,7 +195,7 @@ impl Session {
     }
 
     fn hear_operand(self, thread: u64, kind: Kind, source: u64, number: u64) -> Told
-        ensures { result ≡ operandHeard self thread kind source number }
+        ensures { result ≡ operand_heard self thread kind source number }
     {
         if is_unused(number, has_operand(kind)) {
             return self.wrong();
@@ -207,7 +207,7 @@ impl Session {
 
     // One number more.
     pub fn hear(self, number: u64) -> Told
-        ensures { result ≡ hearOf self number }
+        ensures { result ≡ hear_of self number }
     {
         let awaiting = self.awaiting;
         match awaiting {

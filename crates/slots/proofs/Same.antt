@@ -3,17 +3,17 @@ use Rattle.std.proofs.Common.{◌≡◌, ℕ, true, ◌&&◌, eqb, refl, eq-eqb,
 use Rattle.base.specs.Tests.{both}
 use Rattle.slots.specs.declared.queue.QueueWords.{QueueWords}
 use Rattle.slots.specs.declared.StageWords.{StageWords}
-use Rattle.slots.specs.Queue.{sameQueueB}
-use Rattle.slots.specs.Slots.{sameStageB}
+use Rattle.slots.specs.Queue.{same_queue_b}
+use Rattle.slots.specs.Slots.{same_stage_b}
 
 self : (n : ℕ) → eqb n n ≡ true
 self n = eq-eqb n n refl
 
-pub same-queue-self : (w : QueueWords) → sameQueueB w w ≡ true
-same-queue-self w =
+pub same_queue_self : (w : QueueWords) → same_queue_b w w ≡ true
+same_queue_self w =
     rw (self w.flavor, self w.front, self w.back, self w.number, self w.place, self w.capacity)
 
-pub same_queue : (v w : QueueWords) → sameQueueB v w ≡ true → v ≡ w
+pub same_queue : (v w : QueueWords) → same_queue_b v w ≡ true → v ≡ w
 same_queue v w e =
     let t1 = both _ _ e in
     let t2 = both _ _ t1.1 in
@@ -29,8 +29,8 @@ same_queue v w e =
     λ i. record { flavor = flavor i; front = front i; back = back i; number = number i; place = place i; capacity = capacity i }
 
 -- a stage's words are told four by four
-four-self : (k l m n : ℕ) → (eqb k k && (eqb l l && (eqb m m && eqb n n))) ≡ true
-four-self k l m n = rw (self k, self l, self m, self n)
+four_self : (k l m n : ℕ) → (eqb k k && (eqb l l && (eqb m m && eqb n n))) ≡ true
+four_self k l m n = rw (self k, self l, self m, self n)
 
 record Four (k l m n p q r s : ℕ) : Type 0 where
   first : k ≡ p
@@ -45,13 +45,13 @@ four k l m n p q r s e =
     let t3 = both (eqb m r) (eqb n s) t2.1 in
     record { first = eqb-true k p t1.0; second = eqb-true l q t2.0; third = eqb-true m r t3.0; fourth = eqb-true n s t3.1 }
 
-pub same-stage-self : (w : StageWords) → sameStageB w w ≡ true
-same-stage-self w =
+pub same_stage_self : (w : StageWords) → same_stage_b w w ≡ true
+same_stage_self w =
     rw
-    (four-self w.operation w.number w.kind w.step, four-self w.f w.b w.n w.i, four-self w.end w.job w.far w.hand, four-self w.held w.ring w.place w.capacity)
+    (four_self w.operation w.number w.kind w.step, four_self w.f w.b w.n w.i, four_self w.end w.job w.far w.hand, four_self w.held w.ring w.place w.capacity)
 
-pub same-stage : (v w : StageWords) → sameStageB v w ≡ true → v ≡ w
-same-stage v w e =
+pub same_stage : (v w : StageWords) → same_stage_b v w ≡ true → v ≡ w
+same_stage v w e =
     let t1 = both _ _ e in
     let t2 = both _ _ t1.1 in
     let t3 = both _ _ t2.1 in

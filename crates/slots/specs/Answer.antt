@@ -1,10 +1,10 @@
 -- An answer as words: the four numbers that tell it.
 use Rattle.std.specs.Prelude.{ℕ, List, [], ◌∷◌}
-use Rattle.std.specs.declared.answer.Answer.{Answer}
-use Rattle.std.specs.Answers.{Told, told}
+use Rattle.parts.specs.declared.answer.Answer.{Answer}
+use Rattle.parts.specs.Answers.{Told, told}
 
-abbrev pub toldWords : Told → List ℕ
-toldWords t = t.kind ∷ t.number ∷ t.value ∷ t.length ∷ []
+abbrev pub told_words : Told → List ℕ
+told_words t = t.kind ∷ t.number ∷ t.value ∷ t.length ∷ []
 
-abbrev pub answerWords : Answer → List ℕ
-answerWords answer = toldWords (told answer)
+abbrev pub answer_words : Answer → List ℕ
+answer_words answer = told_words (told answer)

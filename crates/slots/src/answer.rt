@@ -1,12 +1,12 @@
 // An answer as words: its kind, its number or 0, its job or a length's difference in two's complement, a length.
 ghost use Rattle.std.specs.Prelude.{◌≡◌};
-ghost use Rattle.slots.specs.Answer.{answerWords};
+ghost use Rattle.slots.specs.Answer.{answer_words};
 
-use core::answer::Answer;
+use parts::answer::Answer;
 use index::bits;
 
 pub fn answer_words(answer: Answer) -> [u64; 4]
-    ensures { result ≡ answerWords answer }
+    ensures { result ≡ answer_words answer }
 {
     match answer {
         Answer::Working => [0, 0, 0, 0],

@@ -1,6 +1,6 @@
 // The words of a queue, of an answer and of a stage, slot by slot. A slot that a stage does not use is 0.
 ghost use Rattle.std.specs.Prelude.{◌≡◌};
-ghost use Rattle.slots.specs.Slots.{indexWord, index_of, bare as bareOf, withRing, withOperation, ringOf, sameStageB};
+ghost use Rattle.slots.specs.Slots.{index_word, index_of, bare as bareOf, with_ring, with_operation, ring_of, same_stage_b};
 
 use index::{Index, bits, signed};
 use ring::{PlaceNumber, Ring, RingNumber};
@@ -39,7 +39,7 @@ pub struct StageWords {
 
 // An index as its two's complement bits.
 pub fn index_word(i: Index) -> u64
-    ensures value { result ≡ indexWord i }
+    ensures value { result ≡ index_word i }
     ensures result_value { index_of result ≡ i }
 {
     bits(i.0)
@@ -77,7 +77,7 @@ impl StageWords {
     }
 
     pub fn with_ring(mut self, ring: Ring) -> StageWords
-        ensures { result ≡ withRing ring self }
+        ensures { result ≡ with_ring ring self }
     {
         self.ring = ring.number.0;
         self.place = ring.place.0 as u64;
@@ -87,15 +87,15 @@ impl StageWords {
 
     // The operation that the step belongs to, and the number that it carries.
     pub fn with_operation(mut self, operation: u64, number: u64) -> StageWords
-        ensures { result ≡ withOperation operation number self }
+        ensures { result ≡ with_operation operation number self }
     {
         self.operation = operation;
         self.number = number;
         self
     }
 
-    pub fn ring_of(self) -> Ring
-        ensures { result ≡ ringOf self }
+    pub fn ring_of_lem(self) -> Ring
+        ensures { result ≡ ring_of self }
     {
         Ring {
             number: RingNumber(self.ring),
@@ -107,7 +107,7 @@ impl StageWords {
 
 // The same words. Words that no stage has differ from those of the stage that they are read as.
 pub fn same_stage(one: StageWords, other: StageWords) -> bool
-    ensures { result ≡ sameStageB one other }
+    ensures { result ≡ same_stage_b one other }
 {
     ((one.operation == other.operation)
         & ((one.number == other.number) & ((one.kind == other.kind) & (one.step == other.step))))

@@ -1,10 +1,10 @@
 // A queue as words.
 ghost use Rattle.std.specs.Prelude.{◌≡◌};
-ghost use Rattle.std.specs.Queues.{flavorOf};
-ghost use Rattle.slots.specs.Queue.{flavorWord, flavorsOf, queueWords, queueOf, sameQueueB};
+ghost use Rattle.parts.specs.Queues.{flavor_of};
+ghost use Rattle.slots.specs.Queue.{flavor_word, flavors_of, queue_words, queue_of, same_queue_b};
 
 use crate::{index_of, index_word};
-use core::queue::{Flavor, Queue, flavor_of};
+use parts::queue::{Flavor, Queue, flavor_of};
 use ring::{PlaceNumber, Ring, RingNumber};
 
 #[derive(Drop)]
@@ -20,8 +20,8 @@ pub struct QueueWords {
 }
 
 fn flavor_word(flavor: Flavor) -> u64
-    ensures value { result ≡ flavorWord flavor }
-    ensures result_value { flavorOf result ≡ flavor }
+    ensures value { result ≡ flavor_word flavor }
+    ensures result_value { flavor_of result ≡ flavor }
 {
     match flavor {
         Flavor::Fifo => 0,
@@ -31,7 +31,7 @@ fn flavor_word(flavor: Flavor) -> u64
 
 // Queue q is LIFO where bit q is set.
 pub fn flavors_of(bits: u64) -> [Flavor; 4]
-    ensures { result ≡ flavorsOf bits }
+    ensures { result ≡ flavors_of bits }
 {
     [
         flavor_of(bits % 2),
@@ -42,8 +42,8 @@ pub fn flavors_of(bits: u64) -> [Flavor; 4]
 }
 
 pub fn queue_words(q: Queue) -> QueueWords
-    ensures value { result ≡ queueWords q }
-    ensures result_value { queueOf result ≡ q }
+    ensures value { result ≡ queue_words q }
+    ensures result_value { queue_of result ≡ q }
 {
     let flavor = q.flavor;
     let front = q.front;
@@ -59,7 +59,7 @@ pub fn queue_words(q: Queue) -> QueueWords
 }
 
 pub fn queue_of(w: QueueWords) -> Queue
-    ensures { result ≡ queueOf w }
+    ensures { result ≡ queue_of w }
 {
     Queue {
         flavor: flavor_of(w.flavor),
@@ -75,7 +75,7 @@ pub fn queue_of(w: QueueWords) -> Queue
 
 // The same words. Words that no queue has differ from those of the queue that they are read as.
 pub fn same_queue(one: QueueWords, other: QueueWords) -> bool
-    ensures { result ≡ sameQueueB one other }
+    ensures { result ≡ same_queue_b one other }
 {
     (one.flavor == other.flavor)
         & ((one.front == other.front)

@@ -1,12 +1,12 @@
 // What soundness asks of a ring that a stage keeps.
 ghost use Rattle.std.specs.Prelude.{◌≡◌};
-ghost use Rattle.sound.specs.Sound.{keptSound};
+ghost use Rattle.sound.specs.Sound.{kept_sound};
 
 use crate::ring_sound;
 use keeps::Kept;
 
 pub fn kept_sound(places: usize, kept: Kept) -> bool
-    ensures { result ≡ keptSound places kept }
+    ensures { result ≡ kept_sound places kept }
 {
     match kept {
         Kept::Nothing => true,

@@ -1,9 +1,9 @@
 // What soundness asks of the counts, of queues and of a stage.
 ghost use Rattle.std.specs.Prelude.{◌≡◌};
-ghost use Rattle.std.specs.Queues.{queueIn};
-ghost use Rattle.sound.specs.Sound.{countsB, ringSound, queueSound, queuesSoundOf};
+ghost use Rattle.parts.specs.Queues.{queue_in};
+ghost use Rattle.sound.specs.Sound.{counts_b, ring_sound, queue_sound, queues_sound_of};
 
-use core::queue::{Queue, queue_of};
+use parts::queue::{Queue, queue_of};
 use ring::Ring;
 
 pub mod kept;
@@ -15,25 +15,25 @@ pub const MOST_PLACES: usize = 16;
 
 // So many queues and places may be.
 pub fn counts_in_range(queues: usize, places: usize) -> bool
-    ensures { result ≡ countsB queues places }
+    ensures { result ≡ counts_b queues places }
 {
     (1 <= queues) & ((queues <= MOST_QUEUES) & ((queues <= places) & (places <= MOST_PLACES)))
 }
 
 pub fn ring_sound(places: usize, ring: Ring) -> bool
-    ensures { result ≡ ringSound places ring }
+    ensures { result ≡ ring_sound places ring }
 {
     Ring::allowed(ring.capacity) & (ring.place.0 < places)
 }
 
 pub fn queue_sound(places: usize, q: Queue) -> bool
-    ensures { result ≡ queueSound places q }
+    ensures { result ≡ queue_sound places q }
 {
     ring_sound(places, q.ring) & q.back.spans(q.front, q.ring.capacity)
 }
 
 pub fn queues_sound(count: usize, places: usize, queues: [Queue; 4]) -> bool
-    ensures { result ≡ queuesSoundOf count places (queueIn queues) }
+    ensures { result ≡ queues_sound_of count places (queue_in queues) }
 {
     let mut i = 0;
     while i < count {

@@ -1,9 +1,9 @@
 // What soundness asks of what a thread remembers.
 ghost use Rattle.std.specs.Prelude.{◌≡◌};
-ghost use Rattle.sound.specs.Sound.{namedSound, resizeSound, pushSound, popSound, wantedSound, haulSound, allSound, oneSound, takeSound, sourceSound, reserveSound, putSound, ownSound, numbersSound, stageSound};
+ghost use Rattle.sound.specs.Sound.{named_sound, resize_sound, push_sound, pop_sound, wanted_sound, haul_sound, all_sound, one_sound, take_sound, source_sound, reserve_sound, put_sound, own_sound, numbers_sound, stage_sound};
 
 use crate::kept::kept_sound;
-use core::stage::{
+use parts::stage::{
     AllStage, Haul, OneStage, OwnStage, PopStage, PushStage, PutStage, ReserveStage, ResizeStage,
     SourceStage, Stage, TakeStage, Wanted,
 };
@@ -12,7 +12,7 @@ use ring::Ring;
 
 // The source queue exists.
 fn named_sound(queues: usize, stage: Stage) -> bool
-    ensures { result ≡ namedSound queues stage }
+    ensures { result ≡ named_sound queues stage }
 {
     match stage {
         Stage::Steal(source, _) => source < queues,
@@ -24,7 +24,7 @@ fn named_sound(queues: usize, stage: Stage) -> bool
 }
 
 fn resize_sound(at: ResizeStage) -> bool
-    ensures { result ≡ resizeSound at }
+    ensures { result ≡ resize_sound at }
 {
     match at {
         ResizeStage::LoadBack { capacity } => Ring::allowed(capacity),
@@ -39,7 +39,7 @@ fn resize_sound(at: ResizeStage) -> bool
 }
 
 fn push_sound(at: PushStage) -> bool
-    ensures { result ≡ pushSound at }
+    ensures { result ≡ push_sound at }
 {
     match at {
         PushStage::LoadBack => true,
@@ -51,7 +51,7 @@ fn push_sound(at: PushStage) -> bool
 }
 
 fn pop_sound(at: PopStage) -> bool
-    ensures { result ≡ popSound at }
+    ensures { result ≡ pop_sound at }
 {
     match at {
         PopStage::Fifo(_) => true,
@@ -61,19 +61,19 @@ fn pop_sound(at: PopStage) -> bool
 }
 
 fn wanted_sound(wanted: Wanted) -> bool
-    ensures { result ≡ wantedSound wanted }
+    ensures { result ≡ wanted_sound wanted }
 {
     wanted.n <= Ring::LARGEST as u64
 }
 
 fn haul_sound(haul: Haul, counter: u64) -> bool
-    ensures { result ≡ haulSound haul counter }
+    ensures { result ≡ haul_sound haul counter }
 {
     (haul.n <= Ring::LARGEST as u64) & (counter <= haul.n)
 }
 
 fn all_sound(haul: Haul, at: AllStage) -> bool
-    ensures { result ≡ allSound haul at }
+    ensures { result ≡ all_sound haul at }
 {
     match at {
         AllStage::Copy { i } => haul_sound(haul, i),
@@ -83,7 +83,7 @@ fn all_sound(haul: Haul, at: AllStage) -> bool
 }
 
 fn one_sound(haul: Haul, at: OneStage) -> bool
-    ensures { result ≡ oneSound haul at }
+    ensures { result ≡ one_sound haul at }
 {
     match at {
         OneStage::ExchangeFirst { job: _ } => haul_sound(haul, 0),
@@ -95,7 +95,7 @@ fn one_sound(haul: Haul, at: OneStage) -> bool
 }
 
 fn take_sound(haul: Haul, at: TakeStage) -> bool
-    ensures { result ≡ takeSound haul at }
+    ensures { result ≡ take_sound haul at }
 {
     match at {
         TakeStage::ReadFirst => haul_sound(haul, 0),
@@ -104,8 +104,8 @@ fn take_sound(haul: Haul, at: TakeStage) -> bool
     }
 }
 
-fn source_sound(at: SourceStage) -> bool
-    ensures { result ≡ sourceSound at }
+fn source_sound_lem(at: SourceStage) -> bool
+    ensures { result ≡ source_sound at }
 {
     match at {
         SourceStage::LoadFront { kind: _, others: _ } => true,
@@ -120,7 +120,7 @@ fn source_sound(at: SourceStage) -> bool
 }
 
 fn reserve_sound(at: ReserveStage) -> bool
-    ensures { result ≡ reserveSound at }
+    ensures { result ≡ reserve_sound at }
 {
     match at {
         ReserveStage::LoadBack => true,
@@ -130,7 +130,7 @@ fn reserve_sound(at: ReserveStage) -> bool
 }
 
 fn put_sound(haul: Haul, at: PutStage) -> bool
-    ensures { result ≡ putSound haul at }
+    ensures { result ≡ put_sound haul at }
 {
     match at {
         PutStage::WriteCopy { i, job: _ } => haul_sound(haul, i),
@@ -141,7 +141,7 @@ fn put_sound(haul: Haul, at: PutStage) -> bool
 }
 
 fn own_sound(at: OwnStage) -> bool
-    ensures { result ≡ ownSound at }
+    ensures { result ≡ own_sound at }
 {
     match at {
         OwnStage::Reserve(_, stage) => reserve_sound(stage),
@@ -151,19 +151,19 @@ fn own_sound(at: OwnStage) -> bool
 }
 
 fn numbers_sound(stage: Stage) -> bool
-    ensures { result ≡ numbersSound stage }
+    ensures { result ≡ numbers_sound stage }
 {
     match stage {
         Stage::Push(_, at) => push_sound(at),
         Stage::Pop(_, at) => pop_sound(at),
-        Stage::BatchSource(_, at) => source_sound(at),
+        Stage::BatchSource(_, at) => source_sound_lem(at),
         Stage::BatchOwn(_, at) => own_sound(at),
         _ => true,
     }
 }
 
 pub fn stage_sound(queues: usize, places: usize, stage: Stage) -> bool
-    ensures { result ≡ stageSound queues places stage }
+    ensures { result ≡ stage_sound queues places stage }
 {
     named_sound(queues, stage) & (kept_sound(places, ring_kept(stage)) & numbers_sound(stage))
 }

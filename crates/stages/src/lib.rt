@@ -1,12 +1,12 @@
 // What a stage tells of its next step.
 ghost use Rattle.std.specs.Prelude.{◌≡◌};
-ghost use Rattle.stages.specs.Stages.{touchedOf, idleB, resizeClaims, pushClaims, popClaims, reserveClaims, ownClaims, claimsB};
+ghost use Rattle.stages.specs.Stages.{touched_of, idle_b, resize_claims, push_claims, pop_claims, reserve_claims, own_claims, claims_b};
 
-use core::stage::{OwnStage, PopStage, PushStage, ReserveStage, ResizeStage, Stage};
+use parts::stage::{OwnStage, PopStage, PushStage, ReserveStage, ResizeStage, Stage};
 
 // The queue that the step touches, for a thread whose own queue is this.
 pub fn touched(stage: Stage, own: usize) -> usize
-    ensures { result ≡ touchedOf stage own }
+    ensures { result ≡ touched_of stage own }
 {
     match stage {
         Stage::Steal(source, _) => source,
@@ -17,7 +17,7 @@ pub fn touched(stage: Stage, own: usize) -> usize
 }
 
 pub fn is_idle(stage: Stage) -> bool
-    ensures { result ≡ idleB stage }
+    ensures { result ≡ idle_b stage }
 {
     match stage {
         Stage::Idle => true,
@@ -26,7 +26,7 @@ pub fn is_idle(stage: Stage) -> bool
 }
 
 fn resize_claims(at: ResizeStage) -> bool
-    ensures { result ≡ resizeClaims at }
+    ensures { result ≡ resize_claims at }
 {
     match at {
         ResizeStage::LoadBack { capacity: _ } => false,
@@ -41,7 +41,7 @@ fn resize_claims(at: ResizeStage) -> bool
 }
 
 fn push_claims(at: PushStage) -> bool
-    ensures { result ≡ pushClaims at }
+    ensures { result ≡ push_claims at }
 {
     match at {
         PushStage::LoadBack => false,
@@ -53,7 +53,7 @@ fn push_claims(at: PushStage) -> bool
 }
 
 fn pop_claims(at: PopStage) -> bool
-    ensures { result ≡ popClaims at }
+    ensures { result ≡ pop_claims at }
 {
     match at {
         PopStage::Fifo(_) => false,
@@ -63,7 +63,7 @@ fn pop_claims(at: PopStage) -> bool
 }
 
 fn reserve_claims(at: ReserveStage) -> bool
-    ensures { result ≡ reserveClaims at }
+    ensures { result ≡ reserve_claims at }
 {
     match at {
         ReserveStage::LoadBack => false,
@@ -73,7 +73,7 @@ fn reserve_claims(at: ReserveStage) -> bool
 }
 
 fn own_claims(at: OwnStage) -> bool
-    ensures { result ≡ ownClaims at }
+    ensures { result ≡ own_claims at }
 {
     match at {
         OwnStage::Reserve(_, stage) => reserve_claims(stage),
@@ -84,7 +84,7 @@ fn own_claims(at: OwnStage) -> bool
 
 // The step claims a ring.
 pub fn claims(stage: Stage) -> bool
-    ensures { result ≡ claimsB stage }
+    ensures { result ≡ claims_b stage }
 {
     match stage {
         Stage::Push(_, at) => push_claims(at),

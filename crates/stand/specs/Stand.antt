@@ -2,25 +2,25 @@
 use Rattle.std.specs.Prelude.{ℕ, Bool, false, List, ◌++◌, length, take, drop, nat_lt}
 use Rattle.base.specs.Tests.{pick}
 use Rattle.writing.specs.Writing.{Page}
-use Rattle.std.specs.declared.answer.Answer.TheVariants.{Working}
+use Rattle.parts.specs.declared.answer.Answer.TheVariants.{Working}
 use Rattle.machine.specs.declared.state.Machine.{Machine}
 use Rattle.machine.specs.State.{After, after, leaves}
-use Rattle.machine.specs.Setup.{zeroMachine, setupOf}
+use Rattle.machine.specs.Setup.{zero_machine, setup_of}
 use Rattle.machine.specs.Call.{call_of}
 use Rattle.session.specs.declared.grammar.Said.{Said}
 use Rattle.session.specs.declared.grammar.Said.TheVariants.{Nothing, Setup, Call, Wrong}
-use Rattle.session.specs.Grammar.{flavorsOf}
+use Rattle.session.specs.Grammar.{flavors_of}
 use Rattle.player.specs.declared.Player.{Player}
 use Rattle.player.specs.declared.Turn.{Turn}
-use Rattle.player.specs.Player.{newPlayer, cells_of, turnText, showOf, endsB}
+use Rattle.player.specs.Player.{new_player, cells_of, turn_text, show_of, ends_b}
 use Rattle.stand.specs.declared.Stand.{Stand}
 
 abbrev pub stood : Player → Machine → ℕ → Bool → Stand
 stood p m at over = record { player = p; machine = m; at = at; is_over = over }
 
 -- before the session: the machine of zeros, which a refused setup leaves
-abbrev pub newStand : Stand
-newStand = stood newPlayer zeroMachine 0 false
+abbrev pub new_stand : Stand
+new_stand = stood new_player zero_machine 0 false
 
 -- what the program has then: how far the session is played, the pool's cells and the page's bytes
 pub record Scene : Type 0 where
@@ -38,34 +38,34 @@ lent_of p cells = pick (nat_lt (cells_of p) (length cells)) (cells_of p) (length
 -- what the machine does at what was said; where it is asked nothing, it stands as it did, and no line shows its answer
 abbrev pub asked_of : Machine → Said → Player → List ℕ → After
 asked_of m Nothing p cells = after m Working cells
-asked_of m (Setup k) p cells = setupOf k (flavorsOf p.session) p.session.places cells
+asked_of m (Setup k) p cells = setup_of k (flavors_of p.session) p.session.places cells
 asked_of m (Call t r) p cells = call_of m cells t r
 asked_of m Wrong p cells = after m Working cells
 
-unfoldable pub askOf : Machine → Turn → List ℕ → After
-askOf m t cells = asked_of m t.said t.player cells
+unfoldable pub ask_of : Machine → Turn → List ℕ → After
+ask_of m t cells = asked_of m t.said t.player cells
 
 -- the same in the first n cells of the pool; the others stay
-abbrev pub askIn : ℕ → Machine → Turn → List ℕ → After
-askIn n m t cells = leaves (askOf m t (take n cells)).called ((askOf m t (take n cells)).cells ++ drop n cells)
+abbrev pub ask_in : ℕ → Machine → Turn → List ℕ → After
+ask_in n m t cells = leaves (ask_of m t (take n cells)).called ((ask_of m t (take n cells)).cells ++ drop n cells)
 
 -- what the machine does at what was said, in the part of the pool that it is lent
-abbrev pub askedIn : Stand → Turn → List ℕ → After
-askedIn s t cells = askIn (lent_of t.player cells) s.machine t cells
+abbrev pub asked_in : Stand → Turn → List ℕ → After
+asked_in s t cells = ask_in (lent_of t.player cells) s.machine t cells
 
 -- then a line is printed, and the program ends or goes on
-abbrev pub shownAt : Turn → After → Page → Scene
-shownAt t a p = scene (stood t.player a.called.machine p.at (endsB t.said a.called.answer)) a.cells p.bytes
+abbrev pub shown_at : Turn → After → Page → Scene
+shown_at t a p = scene (stood t.player a.called.machine p.at (ends_b t.said a.called.answer)) a.cells p.bytes
 
 abbrev pub shown : Turn → After → List ℕ → ℕ → Scene
-shown t a bytes at = shownAt t a (showOf t a.called.answer a.called.machine.queue_count a.called.machine.queues bytes at)
+shown t a bytes at = shown_at t a (show_of t a.called.answer a.called.machine.queue_count a.called.machine.queues bytes at)
 
-abbrev pub actOf : Stand → Turn → List ℕ → List ℕ → Scene
-actOf s t cells bytes = shown t (askedIn s t cells) bytes s.at
+abbrev pub act_of : Stand → Turn → List ℕ → List ℕ → Scene
+act_of s t cells bytes = shown t (asked_in s t cells) bytes s.at
 
 -- that line
-abbrev pub afterText : Turn → After → List ℕ
-afterText t a = turnText t a.called.answer a.called.machine.queue_count a.called.machine.queues
+abbrev pub after_text : Turn → After → List ℕ
+after_text t a = turn_text t a.called.answer a.called.machine.queue_count a.called.machine.queues
 
-unfoldable pub actText : Stand → Turn → List ℕ → List ℕ
-actText s t cells = afterText t (askedIn s t cells)
+unfoldable pub act_text : Stand → Turn → List ℕ → List ℕ
+act_text s t cells = after_text t (asked_in s t cells)

@@ -1,10 +1,10 @@
 // How far a session is played, and what the program does at what was said.
 ghost use Rattle.std.specs.Prelude.{◌≡◌};
 ghost use Rattle.machine.specs.State.{leaves};
-ghost use Rattle.stand.specs.Stand.{newStand, stood, lent_of, askOf, scene, actOf};
+ghost use Rattle.stand.specs.Stand.{new_stand, stood, lent_of, ask_of, scene, act_of};
 
-use core::answer::Answer;
-use core::queue::Flavor;
+use parts::answer::Answer;
+use parts::queue::Flavor;
 use machine::state::{Called, Machine};
 use player::{Player, Turn};
 use session::grammar::Said;
@@ -31,7 +31,7 @@ fn lent(player: Player, pool: &[u64]) -> usize
 
 // What the machine does at what was said; where it is asked nothing, it stands as it did.
 fn ask(machine: Machine, turn: Turn, pool: &mut [u64]) -> Called
-    ensures { leaves result pool.new ≡ askOf machine turn pool.old }
+    ensures { leaves result pool.new ≡ ask_of machine turn pool.old }
 {
     let said = turn.said;
     match said {
@@ -71,7 +71,7 @@ fn standing(player: Player, machine: Machine, at: usize, is_over: bool) -> Stand
 impl Stand {
     // Before the session: the machine of zeros, which a refused setup leaves.
     pub fn new() -> Stand
-        ensures { result ≡ newStand }
+        ensures { result ≡ new_stand }
     {
         let refused = Machine::setup(0, [Flavor::Fifo; 4], 0, &[0u64; 1]);
         standing(Player::new(), refused.machine, 0, false)
@@ -79,7 +79,7 @@ impl Stand {
 
     // What the program does at what was said.
     pub fn act(self, turn: Turn, pool: &mut [u64], page: &mut [u8]) -> Stand
-        ensures { scene result pool.new page.new ≡ actOf self turn pool.old page.old }
+        ensures { scene result pool.new page.new ≡ act_of self turn pool.old page.old }
     {
         let player = turn.player;
         let cells = lent(player, pool);

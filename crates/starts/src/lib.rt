@@ -1,9 +1,9 @@
 // Where an operation starts.
 ghost use Rattle.std.specs.Prelude.{◌≡◌, ◌-◌};
-ghost use Rattle.starts.specs.Starts.{popping as poppingOf, firstStage};
+ghost use Rattle.starts.specs.Starts.{popping as poppingOf, first_stage};
 
-use core::queue::Flavor;
-use core::stage::{
+use parts::queue::Flavor;
+use parts::stage::{
     BatchKind, FifoPopStage, LengthStage, LifoPopStage, PopStage, Popper, PushStage, SourceStage,
     Stage, StealStage,
 };
@@ -39,7 +39,7 @@ fn first_batch(kind: BatchKind, source: usize, limit: u64) -> Stage
 
 // The first stage, for a thread whose own queue is this. From the own queue a batch looks, and a batch and pop pops.
 pub fn first_stage(flavor: Flavor, own: usize, operation: Operation) -> Stage
-    ensures { result ≡ firstStage flavor own operation }
+    ensures { result ≡ first_stage flavor own operation }
 {
     match operation {
         Operation::Push(job) => {

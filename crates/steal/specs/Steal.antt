@@ -17,51 +17,51 @@ value_of Empty = 0
 value_of (Success job) = job
 value_of Retry = 0
 
-abbrev pub isEmptyB : Steal → Bool
-isEmptyB Empty = true
-isEmptyB (Success job) = false
-isEmptyB Retry = false
+abbrev pub is_empty_b : Steal → Bool
+is_empty_b Empty = true
+is_empty_b (Success job) = false
+is_empty_b Retry = false
 
-abbrev pub isSuccessB : Steal → Bool
-isSuccessB Empty = false
-isSuccessB (Success job) = true
-isSuccessB Retry = false
+abbrev pub is_success_b : Steal → Bool
+is_success_b Empty = false
+is_success_b (Success job) = true
+is_success_b Retry = false
 
-abbrev pub isRetryB : Steal → Bool
-isRetryB Empty = false
-isRetryB (Success job) = false
-isRetryB Retry = true
+abbrev pub is_retry_b : Steal → Bool
+is_retry_b Empty = false
+is_retry_b (Success job) = false
+is_retry_b Retry = true
 
-abbrev pub successOf : Steal → Found
-successOf Empty = Nothing
-successOf (Success job) = Job job
-successOf Retry = Nothing
+abbrev pub success_of : Steal → Found
+success_of Empty = Nothing
+success_of (Success job) = Job job
+success_of Retry = Nothing
 
 -- the second if that is Success, and otherwise Retry
-abbrev pub afterRetry : Steal → Steal
-afterRetry Empty = Retry
-afterRetry (Success job) = Success job
-afterRetry Retry = Retry
+abbrev pub after_retry : Steal → Steal
+after_retry Empty = Retry
+after_retry (Success job) = Success job
+after_retry Retry = Retry
 
 -- Empty gives the second, Success the first
 abbrev pub or_else : Steal → Steal → Steal
 or_else Empty second = second
 or_else (Success job) second = Success job
-or_else Retry second = afterRetry second
+or_else Retry second = after_retry second
 
 -- of a list: the first Success, otherwise Retry if there is one, otherwise Empty
 unfoldable pub collected : List Steal → Steal
 collected [] = Empty
 collected (Empty ∷ l) = collected l
 collected (Success job ∷ l) = Success job
-collected (Retry ∷ l) = afterRetry (collected l)
+collected (Retry ∷ l) = after_retry (collected l)
 
 -- the answer with this number and value; Empty where no answer has the number
-unfoldable pub ofNumber : ℕ → ℕ → Steal
-ofNumber k v = pick (eqb k 5) (Success v) (pick (eqb k 6) Retry Empty)
+unfoldable pub of_number : ℕ → ℕ → Steal
+of_number k v = pick (eqb k 5) (Success v) (pick (eqb k 6) Retry Empty)
 
 -- a list of answers, by their numbers and their values, as long as the shorter of the two
 unfoldable pub answers : List ℕ → List ℕ → List Steal
 answers [] vs = []
 answers (k ∷ ks) [] = []
-answers (k ∷ ks) (v ∷ vs) = ofNumber k v ∷ answers ks vs
+answers (k ∷ ks) (v ∷ vs) = of_number k v ∷ answers ks vs

@@ -1,6 +1,6 @@
 // The answer of an attempt to steal, and its helpers.
 ghost use Rattle.std.specs.Prelude.{◌≡◌};
-ghost use Rattle.steal.specs.Steal.{number_of, value_of, isEmptyB, isSuccessB, isRetryB, successOf, or_else, ofNumber, collected, answers};
+ghost use Rattle.steal.specs.Steal.{number_of, value_of, is_empty_b, is_success_b, is_retry_b, success_of, or_else, of_number, collected, answers};
 
 #[derive(Drop)]
 pub enum Steal {
@@ -21,7 +21,7 @@ pub enum Success {
 
 impl Steal {
     pub fn is_empty(self) -> bool
-        ensures { result ≡ isEmptyB self }
+        ensures { result ≡ is_empty_b self }
     {
         match self {
             Steal::Empty => true,
@@ -31,7 +31,7 @@ impl Steal {
     }
 
     pub fn is_success(self) -> bool
-        ensures { result ≡ isSuccessB self }
+        ensures { result ≡ is_success_b self }
     {
         match self {
             Steal::Empty => false,
@@ -41,7 +41,7 @@ impl Steal {
     }
 
     pub fn is_retry(self) -> bool
-        ensures { result ≡ isRetryB self }
+        ensures { result ≡ is_retry_b self }
     {
         match self {
             Steal::Empty => false,
@@ -52,7 +52,7 @@ impl Steal {
 
     // The job, if there is one.
     pub fn success(self) -> Success
-        ensures { result ≡ successOf self }
+        ensures { result ≡ success_of self }
     {
         match self {
             Steal::Empty => Success::Nothing,
@@ -100,7 +100,7 @@ impl Steal {
 
     // The answer with this number and value; Empty where no answer has the number.
     pub fn of(number: u64, value: u64) -> Steal
-        ensures { result ≡ ofNumber number value }
+        ensures { result ≡ of_number number value }
     {
         if number == 5 {
             return Steal::Success(value);

@@ -1,23 +1,23 @@
 -- Sessions: a setup and a list of calls, with any arguments, refused ones included. Each call is given the machine and the pool that the last one
 -- left. What was accepted and what was answered is counted from the calls and their answers alone.
 use Rattle.std.specs.Prelude.{◌≡◌, ℕ, ◌+◌, ◌*◌, ◌<◌, true, T, List, [], ◌∷◌, length, ◌≢◌}
-use Rattle.index.specs.Index.{plusOf, length_of}
-use Rattle.cells.specs.Cells.{placeCells, read_of}
+use Rattle.index.specs.Index.{plus_of, length_of}
+use Rattle.cells.specs.Cells.{place_cells, read_of}
 use Rattle.steal.specs.declared.Steal.TheVariants as T
-use Rattle.std.specs.declared.queue.Flavor.{Flavor}
-use Rattle.std.specs.declared.queue.Queue.{Queue}
-use Rattle.std.specs.declared.stage.Stage.TheVariants.{Idle}
-use Rattle.std.specs.declared.answer.Answer.{Answer}
-use Rattle.std.specs.declared.answer.Answer.TheVariants.{Working, Done, Job, Nothing, Stolen, Moved, Length, GaveUp, Refused}
-use Rattle.std.specs.declared.answer.Refusal.TheVariants as R
+use Rattle.parts.specs.declared.queue.Flavor.{Flavor}
+use Rattle.parts.specs.declared.queue.Queue.{Queue}
+use Rattle.parts.specs.declared.stage.Stage.TheVariants.{Idle}
+use Rattle.parts.specs.declared.answer.Answer.{Answer}
+use Rattle.parts.specs.declared.answer.Answer.TheVariants.{Working, Done, Job, Nothing, Stolen, Moved, Length, GaveUp, Refused}
+use Rattle.parts.specs.declared.answer.Refusal.TheVariants as R
 use Rattle.gate.specs.declared.Operation.{Operation}
 use Rattle.gate.specs.declared.Operation.TheVariants as O
 use Rattle.gate.specs.declared.Request.{Request}
 use Rattle.gate.specs.declared.Request.TheVariants.{Step, Begin}
 use Rattle.machine.specs.declared.state.Machine.{Machine}
-use Rattle.machine.specs.State.{After, queueAt, stageAt}
-use Rattle.machine.specs.Setup.{zeroMachine, setupOf}
-use Rattle.machine.specs.Sound.{soundB}
+use Rattle.machine.specs.State.{After, queue_at, stage_at}
+use Rattle.machine.specs.Setup.{zero_machine, setup_of}
+use Rattle.machine.specs.Sound.{sound_b}
 use Rattle.machine.specs.Call.{call_of}
 use Rattle.model.specs.Count.{one, upd, stand, sum_to}
 
@@ -34,25 +34,25 @@ pub data Call : Type 0 where
 abbrev pub lent_by : Call → Lent
 lent_by (asks p t r) = p
 
-abbrev pub threadOf : Call → ℕ
-threadOf (asks p t r) = t
+abbrev pub thread_of : Call → ℕ
+thread_of (asks p t r) = t
 
 abbrev pub lent : Lent → List ℕ → List ℕ
 lent pool cells = cells
 lent (other l) cells = l
 
 -- the session's pool after a call that left these cells of what it was lent
-abbrev pub poolAfter : Lent → List ℕ → List ℕ → List ℕ
-poolAfter pool cells after = after
-poolAfter (other l) cells after = cells
+abbrev pub pool_after : Lent → List ℕ → List ℕ → List ℕ
+pool_after pool cells after = after
+pool_after (other l) cells after = cells
 
-unfoldable pub calledOf : Machine → List ℕ → Call → After
-calledOf m cells (asks p t r) = call_of m (lent p cells) t r
+unfoldable pub called_of : Machine → List ℕ → Call → After
+called_of m cells (asks p t r) = call_of m (lent p cells) t r
 
 -- no call lends another list of the length that the pool must have
 unfoldable pub Lends : ℕ → List Call → Type 0
 Lends places [] = Unit
-Lends places (c ∷ cs) = ((l : List ℕ) → lent_by c ≡ other l → length l ≢ places * placeCells) × Lends places cs
+Lends places (c ∷ cs) = ((l : List ℕ) → lent_by c ≡ other l → length l ≢ places * place_cells) × Lends places cs
 
 -- ---- sessions
 
@@ -70,42 +70,42 @@ unfoldable pub run_by : (Machine → List ℕ → Call → After) → Machine �
 run_by calls m cells [] = record { machine = m; cells = cells; history = [] }
 run_by calls m cells (c ∷ cs) =
     let a : After = calls m cells c in
-    let r : Session = run_by calls a.called.machine (poolAfter (lent_by c) cells a.cells) cs in
+    let r : Session = run_by calls a.called.machine (pool_after (lent_by c) cells a.cells) cs in
     record { machine = r.machine; cells = r.cells; history = record { call = c; answer = a.called.answer } ∷ r.history }
 
 abbrev pub run : Machine → List ℕ → List Call → Session
-run = run_by calledOf
+run = run_by called_of
 
 -- k queues of these flavours, n places, the cells whatever they are
 abbrev pub session : ℕ → List Flavor → ℕ → List ℕ → List Call → Session
-session k flavors n cells calls = run (setupOf k flavors n cells).called.machine (setupOf k flavors n cells).cells calls
+session k flavors n cells calls = run (setup_of k flavors n cells).called.machine (setup_of k flavors n cells).cells calls
 
 -- ---- counts, of job number j
 
 -- x is what the thread last began to push
-abbrev pub acceptedBy : ℕ → Answer → ℕ → ℕ
-acceptedBy x Working j = 0
-acceptedBy x Done j = one x j
-acceptedBy x (Job v) j = 0
-acceptedBy x Nothing j = 0
-acceptedBy x (Stolen s) j = 0
-acceptedBy x Moved j = 0
-acceptedBy x (Length d n) j = 0
-acceptedBy x (GaveUp s) j = 0
-acceptedBy x (Refused r) j = 0
+abbrev pub accepted_by : ℕ → Answer → ℕ → ℕ
+accepted_by x Working j = 0
+accepted_by x Done j = one x j
+accepted_by x (Job v) j = 0
+accepted_by x Nothing j = 0
+accepted_by x (Stolen s) j = 0
+accepted_by x Moved j = 0
+accepted_by x (Length d n) j = 0
+accepted_by x (GaveUp s) j = 0
+accepted_by x (Refused r) j = 0
 
-abbrev pub answeredBy : Answer → ℕ → ℕ
-answeredBy Working j = 0
-answeredBy Done j = 0
-answeredBy (Job v) j = one v j
-answeredBy Nothing j = 0
-answeredBy (Stolen T.Empty) j = 0
-answeredBy (Stolen (T.Success v)) j = one v j
-answeredBy (Stolen T.Retry) j = 0
-answeredBy Moved j = 0
-answeredBy (Length d n) j = 0
-answeredBy (GaveUp s) j = 0
-answeredBy (Refused r) j = 0
+abbrev pub answered_by : Answer → ℕ → ℕ
+answered_by Working j = 0
+answered_by Done j = 0
+answered_by (Job v) j = one v j
+answered_by Nothing j = 0
+answered_by (Stolen T.Empty) j = 0
+answered_by (Stolen (T.Success v)) j = one v j
+answered_by (Stolen T.Retry) j = 0
+answered_by Moved j = 0
+answered_by (Length d n) j = 0
+answered_by (GaveUp s) j = 0
+answered_by (Refused r) j = 0
 
 -- what each thread last began to push, after a begin
 abbrev pub wished : (ℕ → ℕ) → ℕ → Operation → ℕ → ℕ
@@ -117,47 +117,47 @@ wished jobs t (O.Batch k limit) = jobs
 wished jobs t (O.BatchAndPop k limit) = jobs
 
 -- a begin that is not refused answers Working
-abbrev pub begunBy : Answer → (ℕ → ℕ) → (ℕ → ℕ) → ℕ → ℕ
-begunBy Working new old = new
-begunBy Done new old = old
-begunBy (Job v) new old = old
-begunBy Nothing new old = old
-begunBy (Stolen s) new old = old
-begunBy Moved new old = old
-begunBy (Length d n) new old = old
-begunBy (GaveUp s) new old = old
-begunBy (Refused r) new old = old
+abbrev pub begun_by : Answer → (ℕ → ℕ) → (ℕ → ℕ) → ℕ → ℕ
+begun_by Working new old = new
+begun_by Done new old = old
+begun_by (Job v) new old = old
+begun_by Nothing new old = old
+begun_by (Stolen s) new old = old
+begun_by Moved new old = old
+begun_by (Length d n) new old = old
+begun_by (GaveUp s) new old = old
+begun_by (Refused r) new old = old
 
-abbrev pub jobsAfter : (ℕ → ℕ) → Call → Answer → ℕ → ℕ
-jobsAfter jobs (asks p t (Begin o)) a = begunBy a (wished jobs t o) jobs
-jobsAfter jobs (asks p t Step) a = jobs
+abbrev pub jobs_after : (ℕ → ℕ) → Call → Answer → ℕ → ℕ
+jobs_after jobs (asks p t (Begin o)) a = begun_by a (wished jobs t o) jobs
+jobs_after jobs (asks p t Step) a = jobs
 
-unfoldable pub acceptedFrom : (ℕ → ℕ) → List Event → ℕ → ℕ
-acceptedFrom jobs [] j = 0
-acceptedFrom jobs (e ∷ h) j = acceptedBy (jobs (threadOf e.call)) e.answer j + acceptedFrom (jobsAfter jobs e.call e.answer) h j
+unfoldable pub accepted_from : (ℕ → ℕ) → List Event → ℕ → ℕ
+accepted_from jobs [] j = 0
+accepted_from jobs (e ∷ h) j = accepted_by (jobs (thread_of e.call)) e.answer j + accepted_from (jobs_after jobs e.call e.answer) h j
 
 abbrev pub accepted : List Event → ℕ → ℕ
-accepted h j = acceptedFrom (λ t. 0) h j
+accepted h j = accepted_from (λ t. 0) h j
 
 unfoldable pub answered : List Event → ℕ → ℕ
 answered [] j = 0
-answered (e ∷ h) j = answeredBy e.answer j + answered h j
+answered (e ∷ h) j = answered_by e.answer j + answered h j
 
 -- ---- what stands in the queues
 
 -- the plain reading of a queue: its jobs front to back, by number
-abbrev pub jobAt : List ℕ → Queue → ℕ → ℕ
-jobAt cells q i = read_of cells q.ring (plusOf q.front i)
+abbrev pub job_at : List ℕ → Queue → ℕ → ℕ
+job_at cells q i = read_of cells q.ring (plus_of q.front i)
 
-abbrev pub standsIn : List ℕ → Queue → ℕ → ℕ
-standsIn cells q j = stand (jobAt cells q) 0 (length_of q.back q.front) j
+abbrev pub stands_in : List ℕ → Queue → ℕ → ℕ
+stands_in cells q j = stand (job_at cells q) 0 (length_of q.back q.front) j
 
 unfoldable pub standing : Machine → List ℕ → ℕ → ℕ
-standing m cells j = sum_to m.queue_count (λ (k : ℕ). standsIn cells (queueAt m k) j)
+standing m cells j = sum_to m.queue_count (λ (k : ℕ). stands_in cells (queue_at m k) j)
 
 -- no operation is in flight
 abbrev pub AtRest : Machine → Type 0
-AtRest m = (t : ℕ) → t < m.queue_count → stageAt m t ≡ Idle
+AtRest m = (t : ℕ) → t < m.queue_count → stage_at m t ≡ Idle
 
 -- ---- refusals
 
@@ -193,11 +193,11 @@ AllUnsound (e ∷ h) = (e.answer ≡ Refused R.Unsound) × AllUnsound h
 -- it left it, and every call is refused with 3. A setup has no other answer
 abbrev pub Reached : Answer → List ℕ → Session → Type 0
 Reached Working cells s = ⊥
-Reached Done cells s = (soundB s.machine ≡ true) × AllAllowed s.history
+Reached Done cells s = (sound_b s.machine ≡ true) × AllAllowed s.history
 Reached (Job v) cells s = ⊥
 Reached Nothing cells s = ⊥
 Reached (Stolen a) cells s = ⊥
 Reached Moved cells s = ⊥
 Reached (Length d n) cells s = ⊥
 Reached (GaveUp a) cells s = ⊥
-Reached (Refused r) cells s = (s.machine ≡ zeroMachine) × (s.cells ≡ cells) × AllUnsound s.history
+Reached (Refused r) cells s = (s.machine ≡ zero_machine) × (s.cells ≡ cells) × AllUnsound s.history

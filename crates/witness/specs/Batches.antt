@@ -2,24 +2,24 @@
 -- flavours; and batches of few jobs and small limits, run alone.
 use Rattle.std.specs.Prelude.{◌≡◌, ℕ, zero, suc, ◌-◌, List, [], ◌∷◌, ◌++◌, length, drop, replicate, ℤ, pos, refl}
 use Rattle.std.specs.Int.Count.{ones, ones_in}
-use Rattle.base.specs.Below.{all_below, anyBelow, firstNot}
-use Rattle.index.specs.Index.{wrap, plusOf, minusOf, differenceOf, length_of, behindB, emptyB, fullB, spansB, sameB, cell_of}
-use Rattle.ring.specs.Capacity.{allowedB, twice_of, doubled, holdingOf}
-use Rattle.cells.specs.Cells.{standsB, spot, read_of, written_of}
+use Rattle.base.specs.Below.{all_below, any_below, first_not}
+use Rattle.index.specs.Index.{wrap, plus_of, minus_of, difference_of, length_of, behind_b, empty_b, full_b, spans_b, same_b, cell_of}
+use Rattle.ring.specs.Capacity.{allowed_b, twice_of, doubled, holding_of}
+use Rattle.cells.specs.Cells.{stands_b, spot, read_of, written_of}
 use Rattle.steal.specs.declared.Steal.TheVariants as T
-use Rattle.std.specs.declared.queue.Flavor.{Flavor}
-use Rattle.std.specs.declared.queue.Flavor.TheVariants.{Fifo, Lifo}
-use Rattle.std.specs.declared.answer.Answer.{Answer}
-use Rattle.std.specs.declared.answer.Answer.TheVariants as A
+use Rattle.parts.specs.declared.queue.Flavor.{Flavor}
+use Rattle.parts.specs.declared.queue.Flavor.TheVariants.{Fifo, Lifo}
+use Rattle.parts.specs.declared.answer.Answer.{Answer}
+use Rattle.parts.specs.declared.answer.Answer.TheVariants as A
 use Rattle.gate.specs.declared.Operation.{Operation}
 use Rattle.gate.specs.declared.Operation.TheVariants.{Push, Steal, Batch, BatchAndPop}
-use Rattle.machine.specs.State.{After, queueAt}
-use Rattle.machine.specs.Sound.{soundB}
-use Rattle.machine.specs.Claim.{freeRing}
-use Rattle.machine.specs.Setup.{setupOf}
-use Rattle.machine.specs.Step.{gateOf, step_of}
-use Rattle.machine.specs.Begin.{beginOf}
-use Rattle.games.specs.Play.{Did, does, Game, begin, step, setup, repeated, allPlayed, playing, finish, cellsFrom, contentsUpTo}
+use Rattle.machine.specs.State.{After, queue_at}
+use Rattle.machine.specs.Sound.{sound_b}
+use Rattle.machine.specs.Claim.{free_ring}
+use Rattle.machine.specs.Setup.{setup_of}
+use Rattle.machine.specs.Step.{gate_of, step_of}
+use Rattle.machine.specs.Begin.{begin_of}
+use Rattle.games.specs.Play.{Did, does, Game, begin, step, setup, repeated, all_played, playing, finish, cells_from, contents_up_to}
 
 -- ---- after a step: the pool, the front of the source, queue 0, and the back of the own queue, queue 1
 
@@ -31,8 +31,8 @@ pub record Frame : Type 0 where
 abbrev look : After → Frame
 look a = record {
   cells = a.cells;
-  front = (queueAt a.called.machine 0).front.0;
-  back = (queueAt a.called.machine 1).back.0;
+  front = (queue_at a.called.machine 0).front.0;
+  back = (queue_at a.called.machine 1).back.0;
 }
 
 -- a pool of two places: the source's jobs in the one, these in the own queue's, and zeros
@@ -100,8 +100,8 @@ c7 =
     shot (2 ∷ 3 ∷ []) 3 2 ∷
     []
 
-abbrev pub c7-lifo : List Frame
-c7-lifo =
+abbrev pub c7_lifo : List Frame
+c7_lifo =
     loads 8 ++
     shot (0 ∷ 2 ∷ []) 0 0 ∷
     shot (0 ∷ 2 ∷ []) 0 0 ∷
@@ -117,8 +117,8 @@ pub from-fifo :
     film 14 1 (begun (Fifo ∷ Fifo ∷ []) 5 (BatchAndPop 0 10)) ∷
     film 14 1 (begun (Fifo ∷ Lifo ∷ []) 5 (BatchAndPop 0 10)) ∷
     [] ≡
-    c3 ∷ c4 ∷ c7 ∷ c7-lifo ∷ []
-unfolding film repeated finish all_below anyBelow firstNot wrap plusOf minusOf differenceOf length_of behindB emptyB fullB spansB sameB cell_of allowedB twice_of doubled holdingOf standsB spot read_of written_of soundB freeRing setupOf gateOf step_of beginOf ones ones_in
+    c3 ∷ c4 ∷ c7 ∷ c7_lifo ∷ []
+unfolding film repeated finish all_below any_below first_not wrap plus_of minus_of difference_of length_of behind_b empty_b full_b spans_b same_b cell_of allowed_b twice_of doubled holding_of stands_b spot read_of written_of sound_b free_ring setup_of gate_of step_of begin_of ones ones_in
 from-fifo = refl
 
 -- ---- LIFO source 1..5, limit 10: read cell f; load ring; compare-exchange f to f + 1; write own cell; from the second on, load back first
@@ -174,8 +174,8 @@ previous =
 abbrev pub c8 : List Frame
 c8 = previous ++ shot (1 ∷ 2 ∷ []) 3 2 ∷ []
 
-abbrev pub c8-fifo : List Frame
-c8-fifo =
+abbrev pub c8_fifo : List Frame
+c8_fifo =
     previous ++
     shot (1 ∷ 2 ∷ []) 3 0 ∷
     shot (1 ∷ 2 ∷ []) 3 0 ∷
@@ -188,8 +188,8 @@ c8-fifo =
 abbrev shot7 : List ℕ → ℕ → Frame
 shot7 own b = frame (1 ∷ 2 ∷ 3 ∷ 4 ∷ 5 ∷ 6 ∷ 7 ∷ []) own 4 b
 
-abbrev pub two-swaps : List Frame
-two-swaps =
+abbrev pub two_swaps : List Frame
+two_swaps =
     shot7 (1 ∷ 2 ∷ 3 ∷ 4 ∷ []) 0 ∷
     shot7 (1 ∷ 2 ∷ 3 ∷ 4 ∷ []) 0 ∷
     shot7 (4 ∷ 2 ∷ 3 ∷ 4 ∷ []) 0 ∷
@@ -208,8 +208,8 @@ pub from-lifo :
     film 23 1 (begun (Lifo ∷ Fifo ∷ []) 5 (BatchAndPop 0 10)) ∷
     drop 25 (film 34 1 (begun (Lifo ∷ Fifo ∷ []) 7 (Batch 0 10))) ∷
     [] ≡
-    c5 ∷ c6 ∷ c8 ∷ c8-fifo ∷ two-swaps ∷ []
-unfolding film repeated finish all_below anyBelow firstNot wrap plusOf minusOf differenceOf length_of behindB emptyB fullB spansB sameB cell_of allowedB twice_of doubled holdingOf standsB spot read_of written_of soundB freeRing setupOf gateOf step_of beginOf ones ones_in
+    c5 ∷ c6 ∷ c8 ∷ c8_fifo ∷ two_swaps ∷ []
+unfolding film repeated finish all_below any_below first_not wrap plus_of minus_of difference_of length_of behind_b empty_b full_b spans_b same_b cell_of allowed_b twice_of doubled holding_of stands_b spot read_of written_of sound_b free_ring setup_of gate_of step_of begin_of ones ones_in
 from-lifo = refl
 
 -- ---- few jobs and small limits, run alone: what thread 1 answers, in how many steps, and what the queues then hold
@@ -257,6 +257,6 @@ games =
     game Fifo Lifo [] (BatchAndPop 0 10) (A.Stolen T.Empty) 2 [] [] ∷
     []
 
-pub all-games : allPlayed games ≡ games
-unfolding allPlayed playing finish cellsFrom contentsUpTo all_below anyBelow firstNot wrap plusOf minusOf differenceOf length_of behindB emptyB fullB spansB sameB cell_of allowedB twice_of doubled holdingOf standsB spot read_of written_of soundB freeRing setupOf gateOf step_of beginOf ones ones_in
-all-games = refl
+pub all_games : all_played games ≡ games
+unfolding all_played playing finish cells_from contents_up_to all_below any_below first_not wrap plus_of minus_of difference_of length_of behind_b empty_b full_b spans_b same_b cell_of allowed_b twice_of doubled holding_of stands_b spot read_of written_of sound_b free_ring setup_of gate_of step_of begin_of ones ones_in
+all_games = refl

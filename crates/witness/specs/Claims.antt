@@ -3,36 +3,36 @@
 -- the shrink and answers its job.
 use Rattle.std.specs.Prelude.{◌≡◌, ℕ, ◌-◌, ◌*◌, ◌^◌, List, [], ◌∷◌, map, replicate, pos, refl}
 use Rattle.std.specs.Int.Count.{ones, ones_in}
-use Rattle.base.specs.Below.{all_below, anyBelow, firstNot}
+use Rattle.base.specs.Below.{all_below, any_below, first_not}
 use Rattle.index.specs.declared.Index.{Index}
-use Rattle.index.specs.Index.{wrap, differenceOf, spansB, sameB}
+use Rattle.index.specs.Index.{wrap, difference_of, spans_b, same_b}
 use Rattle.ring.specs.declared.Ring.{Ring}
-use Rattle.ring.specs.Capacity.{allowedB}
+use Rattle.ring.specs.Capacity.{allowed_b}
 use Rattle.steal.specs.declared.Steal.TheVariants.{Success}
-use Rattle.std.specs.declared.queue.Flavor.TheVariants.{Fifo, Lifo}
-use Rattle.std.specs.declared.queue.Queue.{Queue}
-use Rattle.std.specs.declared.answer.Answer.{Answer}
-use Rattle.std.specs.declared.answer.Answer.TheVariants as A
-use Rattle.std.specs.declared.answer.Shortage.TheVariants.{NoRing}
-use Rattle.std.specs.declared.out.Claim.{Claim}
-use Rattle.std.specs.declared.out.Claim.TheVariants.{Got, Nothing}
-use Rattle.std.specs.declared.stage.ResizeStage.{ResizeStage}
-use Rattle.std.specs.declared.stage.ResizeStage.TheVariants as Z
-use Rattle.std.specs.declared.stage.PushStage.TheVariants as U
-use Rattle.std.specs.declared.stage.PopStage.TheVariants as P
-use Rattle.std.specs.declared.stage.Popper.TheVariants as W
-use Rattle.std.specs.declared.stage.StealStage.TheVariants as T
-use Rattle.std.specs.declared.stage.BatchKind.TheVariants as K
-use Rattle.std.specs.declared.stage.ReserveStage.TheVariants as Y
-use Rattle.std.specs.declared.stage.OwnStage.TheVariants as O
-use Rattle.std.specs.declared.stage.Stage.{Stage}
-use Rattle.std.specs.declared.stage.Stage.TheVariants as G
+use Rattle.parts.specs.declared.queue.Flavor.TheVariants.{Fifo, Lifo}
+use Rattle.parts.specs.declared.queue.Queue.{Queue}
+use Rattle.parts.specs.declared.answer.Answer.{Answer}
+use Rattle.parts.specs.declared.answer.Answer.TheVariants as A
+use Rattle.parts.specs.declared.answer.Shortage.TheVariants.{NoRing}
+use Rattle.parts.specs.declared.out.Claim.{Claim}
+use Rattle.parts.specs.declared.out.Claim.TheVariants.{Got, Nothing}
+use Rattle.parts.specs.declared.stage.ResizeStage.{ResizeStage}
+use Rattle.parts.specs.declared.stage.ResizeStage.TheVariants as Z
+use Rattle.parts.specs.declared.stage.PushStage.TheVariants as U
+use Rattle.parts.specs.declared.stage.PopStage.TheVariants as P
+use Rattle.parts.specs.declared.stage.Popper.TheVariants as W
+use Rattle.parts.specs.declared.stage.StealStage.TheVariants as T
+use Rattle.parts.specs.declared.stage.BatchKind.TheVariants as K
+use Rattle.parts.specs.declared.stage.ReserveStage.TheVariants as Y
+use Rattle.parts.specs.declared.stage.OwnStage.TheVariants as O
+use Rattle.parts.specs.declared.stage.Stage.{Stage}
+use Rattle.parts.specs.declared.stage.Stage.TheVariants as G
 use Rattle.machine.specs.declared.state.Machine.{Machine}
-use Rattle.machine.specs.State.{After, after, withQueue, withStage}
-use Rattle.machine.specs.Sound.{soundB}
-use Rattle.machine.specs.Claim.{freeRing}
-use Rattle.machine.specs.Setup.{freshMachine}
-use Rattle.machine.specs.Step.{gateOf, step_of}
+use Rattle.machine.specs.State.{After, after, with_queue, with_stage}
+use Rattle.machine.specs.Sound.{sound_b}
+use Rattle.machine.specs.Claim.{free_ring}
+use Rattle.machine.specs.Setup.{fresh_machine}
+use Rattle.machine.specs.Step.{gate_of, step_of}
 
 abbrev at : ℕ → Index
 at n = record { 0 = pos n }
@@ -42,7 +42,7 @@ ring number place capacity = record { number = record { 0 = number }; place = re
 
 -- k queues, n places: ring q in place q, and ring k comes next
 abbrev fresh : ℕ → ℕ → Machine
-fresh k n = freshMachine k (Fifo ∷ Lifo ∷ Fifo ∷ Lifo ∷ []) n
+fresh k n = fresh_machine k (Fifo ∷ Lifo ∷ Fifo ∷ Lifo ∷ []) n
 
 -- with another number to come next
 abbrev numbered : ℕ → Machine → Machine
@@ -71,18 +71,18 @@ abbrev nothing : Machine → Row
 nothing m = record { machine = m; claim = Nothing }
 
 abbrev claimed : Row → Row
-claimed r = record { machine = r.machine; claim = freeRing r.machine }
+claimed r = record { machine = r.machine; claim = free_ring r.machine }
 
 -- queue k has its ring in place p
 abbrev lying : ℕ → ℕ → Machine → Machine
-lying k p m = withQueue m k (queue 0 0 (ring 7 p 64))
+lying k p m = with_queue m k (queue 0 0 (ring 7 p 64))
 
 -- thread t builds a ring in place p; holds one that is retired
 abbrev builds : ℕ → ℕ → Machine → Machine
-builds t p m = withStage m t (G.Push 7 (U.Resize (at 0) (Z.Swap (ring 8 p 128))))
+builds t p m = with_stage m t (G.Push 7 (U.Resize (at 0) (Z.Swap (ring 8 p 128))))
 
 abbrev holds : ℕ → ℕ → Machine → Machine
-holds t p m = withStage m t (G.Steal 0 (T.Read (at 0) (ring 7 p 64)))
+holds t p m = with_stage m t (G.Steal 0 (T.Read (at 0) (ring 7 p 64)))
 
 abbrev pub claims : List Row
 claims =
@@ -111,18 +111,18 @@ claims =
     nothing (numbered (2 ^ 64 - 1) (fresh 2 3)) ∷
     []
 
-pub all-claims : map claimed claims ≡ claims
-unfolding freeRing anyBelow firstNot
-all-claims = refl
+pub all_claims : map claimed claims ≡ claims
+unfolding free_ring any_below first_not
+all_claims = refl
 
 -- ---- the step that claims: the resize's load of front. Queue 0 holds jobs 1 to 10, and thread 0 resizes to a capacity
 
 -- in a ring of this capacity
 abbrev held : ℕ → Machine → Machine
-held capacity m = withQueue m 0 (queue 1 11 (ring 0 0 capacity))
+held capacity m = with_queue m 0 (queue 1 11 (ring 0 0 capacity))
 
-abbrev loadsFront : ℕ → ResizeStage
-loadsFront capacity = Z.LoadFront capacity (at 11)
+abbrev loads_front : ℕ → ResizeStage
+loads_front capacity = Z.LoadFront capacity (at 11)
 
 abbrev pushing : ResizeStage → Stage
 pushing z = G.Push 900 (U.Resize (at 11) z)
@@ -148,7 +148,7 @@ pub record Step : Type 0 where
   pub answer : Answer
 
 abbrev stepped : Step → After
-stepped s = step_of (withStage s.machine 0 s.stage) (cells s.places) 0
+stepped s = step_of (with_stage s.machine 0 s.stage) (cells s.places) 0
 
 abbrev left : Step → After
 left s = after s.leaves s.answer (cells s.places)
@@ -162,17 +162,17 @@ abbrev goes : ℕ → ℕ → (ResizeStage → Stage) → Step
 goes from to operation = record {
   machine = numbered (2 ^ 64 - 2) (held from (fresh 2 3));
   places = 3;
-  stage = operation (loadsFront to);
-  leaves = withStage (numbered (2 ^ 64 - 1) (held from (fresh 2 3))) 0 (operation (Z.Copy (at 11) (at 1) (ring (2 ^ 64 - 2) 2 to)));
+  stage = operation (loads_front to);
+  leaves = with_stage (numbered (2 ^ 64 - 1) (held from (fresh 2 3))) 0 (operation (Z.Copy (at 11) (at 1) (ring (2 ^ 64 - 2) 2 to)));
   answer = A.Working;
 }
 
 -- no number left; no place left
-abbrev noNumber : ℕ → Machine
-noNumber capacity = numbered (2 ^ 64 - 1) (held capacity (fresh 2 3))
+abbrev no_number : ℕ → Machine
+no_number capacity = numbered (2 ^ 64 - 1) (held capacity (fresh 2 3))
 
-abbrev noPlace : ℕ → Machine
-noPlace capacity = held capacity (fresh 2 2)
+abbrev no_place : ℕ → Machine
+no_place capacity = held capacity (fresh 2 2)
 
 abbrev pub steps : List Step
 steps =
@@ -181,17 +181,17 @@ steps =
     goes 128 64 taking ∷
     goes 64 128 batching ∷
     -- push and batch answer 9
-    ends (noNumber 64) 3 (pushing (loadsFront 128)) (A.GaveUp NoRing) ∷
-    ends (noNumber 64) 3 (batching (loadsFront 128)) (A.GaveUp NoRing) ∷
-    ends (noPlace 64) 2 (pushing (loadsFront 128)) (A.GaveUp NoRing) ∷
-    ends (noPlace 64) 2 (batching (loadsFront 128)) (A.GaveUp NoRing) ∷
+    ends (no_number 64) 3 (pushing (loads_front 128)) (A.GaveUp NoRing) ∷
+    ends (no_number 64) 3 (batching (loads_front 128)) (A.GaveUp NoRing) ∷
+    ends (no_place 64) 2 (pushing (loads_front 128)) (A.GaveUp NoRing) ∷
+    ends (no_place 64) 2 (batching (loads_front 128)) (A.GaveUp NoRing) ∷
     -- a shrinking pop skips the shrink and answers its job
-    ends (noNumber 128) 3 (popping (loadsFront 64)) (A.Job 900) ∷
-    ends (noNumber 128) 3 (taking (loadsFront 64)) (A.Stolen (Success 900)) ∷
-    ends (noPlace 128) 2 (popping (loadsFront 64)) (A.Job 900) ∷
-    ends (noPlace 128) 2 (taking (loadsFront 64)) (A.Stolen (Success 900)) ∷
+    ends (no_number 128) 3 (popping (loads_front 64)) (A.Job 900) ∷
+    ends (no_number 128) 3 (taking (loads_front 64)) (A.Stolen (Success 900)) ∷
+    ends (no_place 128) 2 (popping (loads_front 64)) (A.Job 900) ∷
+    ends (no_place 128) 2 (taking (loads_front 64)) (A.Stolen (Success 900)) ∷
     []
 
-pub all-steps : map stepped steps ≡ map left steps
-unfolding step_of gateOf soundB freeRing all_below anyBelow firstNot allowedB ones ones_in spansB sameB differenceOf wrap
-all-steps = refl
+pub all_steps : map stepped steps ≡ map left steps
+unfolding step_of gate_of sound_b free_ring all_below any_below first_not allowed_b ones ones_in spans_b same_b difference_of wrap
+all_steps = refl

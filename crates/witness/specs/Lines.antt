@@ -2,54 +2,54 @@
 -- holds job i, so that a job tells where it was read. The pops stand in Pops, the claim in Claims.
 use Rattle.std.specs.Prelude.{◌≡◌, ℕ, zero, suc, ◌+◌, List, [], ◌∷◌, map, pos, negsuc, slice_set, refl}
 use Rattle.std.specs.Int.Count.{ones, ones_in}
-use Rattle.base.specs.Below.{all_below, anyBelow, firstNot}
+use Rattle.base.specs.Below.{all_below, any_below, first_not}
 use Rattle.index.specs.declared.Index.{Index}
-use Rattle.index.specs.Index.{wrap, plusOf, minusOf, differenceOf, length_of, emptyB, fullB, spansB, sameB, cell_of}
+use Rattle.index.specs.Index.{wrap, plus_of, minus_of, difference_of, length_of, empty_b, full_b, spans_b, same_b, cell_of}
 use Rattle.ring.specs.declared.Ring.{Ring}
-use Rattle.ring.specs.Capacity.{allowedB, twice_of, doubled, holdingOf}
-use Rattle.cells.specs.Cells.{standsB, spot, read_of, written_of}
+use Rattle.ring.specs.Capacity.{allowed_b, twice_of, doubled, holding_of}
+use Rattle.cells.specs.Cells.{stands_b, spot, read_of, written_of}
 use Rattle.steal.specs.declared.Steal.TheVariants.{Empty, Success, Retry}
-use Rattle.std.specs.declared.queue.Flavor.{Flavor}
-use Rattle.std.specs.declared.queue.Flavor.TheVariants.{Fifo, Lifo}
-use Rattle.std.specs.declared.queue.Queue.{Queue}
-use Rattle.std.specs.declared.answer.Answer.{Answer}
-use Rattle.std.specs.declared.answer.Answer.TheVariants as B
-use Rattle.std.specs.declared.answer.Shortage.TheVariants.{TooLarge}
-use Rattle.std.specs.declared.stage.ResizeStage.{ResizeStage}
-use Rattle.std.specs.declared.stage.ResizeStage.TheVariants as Z
-use Rattle.std.specs.declared.stage.PushStage.{PushStage}
-use Rattle.std.specs.declared.stage.PushStage.TheVariants as U
-use Rattle.std.specs.declared.stage.PopStage.TheVariants as P
-use Rattle.std.specs.declared.stage.Popper.TheVariants as M
-use Rattle.std.specs.declared.stage.StealStage.{StealStage}
-use Rattle.std.specs.declared.stage.StealStage.TheVariants as T
-use Rattle.std.specs.declared.stage.LengthStage.TheVariants as N
-use Rattle.std.specs.declared.stage.BatchKind.{BatchKind}
-use Rattle.std.specs.declared.stage.BatchKind.TheVariants as K
-use Rattle.std.specs.declared.stage.InHand.{InHand}
-use Rattle.std.specs.declared.stage.InHand.TheVariants as H
-use Rattle.std.specs.declared.stage.Wanted.{Wanted}
-use Rattle.std.specs.declared.stage.Haul.{Haul}
-use Rattle.std.specs.declared.stage.AllStage.{AllStage}
-use Rattle.std.specs.declared.stage.AllStage.TheVariants as A
-use Rattle.std.specs.declared.stage.OneStage.{OneStage}
-use Rattle.std.specs.declared.stage.OneStage.TheVariants as E
-use Rattle.std.specs.declared.stage.TakeStage.TheVariants as X
-use Rattle.std.specs.declared.stage.SwapStage.TheVariants as Q
-use Rattle.std.specs.declared.stage.PutStage.{PutStage}
-use Rattle.std.specs.declared.stage.PutStage.TheVariants as W
-use Rattle.std.specs.declared.stage.ReserveStage.{ReserveStage}
-use Rattle.std.specs.declared.stage.ReserveStage.TheVariants as Y
-use Rattle.std.specs.declared.stage.SourceStage.TheVariants as S
-use Rattle.std.specs.declared.stage.OwnStage.TheVariants as O
-use Rattle.std.specs.declared.stage.Stage.{Stage}
-use Rattle.std.specs.declared.stage.Stage.TheVariants.{Idle, Push, Pop, Steal, Length, OwnBatch, BatchSource, BatchOwn}
+use Rattle.parts.specs.declared.queue.Flavor.{Flavor}
+use Rattle.parts.specs.declared.queue.Flavor.TheVariants.{Fifo, Lifo}
+use Rattle.parts.specs.declared.queue.Queue.{Queue}
+use Rattle.parts.specs.declared.answer.Answer.{Answer}
+use Rattle.parts.specs.declared.answer.Answer.TheVariants as B
+use Rattle.parts.specs.declared.answer.Shortage.TheVariants.{TooLarge}
+use Rattle.parts.specs.declared.stage.ResizeStage.{ResizeStage}
+use Rattle.parts.specs.declared.stage.ResizeStage.TheVariants as Z
+use Rattle.parts.specs.declared.stage.PushStage.{PushStage}
+use Rattle.parts.specs.declared.stage.PushStage.TheVariants as U
+use Rattle.parts.specs.declared.stage.PopStage.TheVariants as P
+use Rattle.parts.specs.declared.stage.Popper.TheVariants as M
+use Rattle.parts.specs.declared.stage.StealStage.{StealStage}
+use Rattle.parts.specs.declared.stage.StealStage.TheVariants as T
+use Rattle.parts.specs.declared.stage.LengthStage.TheVariants as N
+use Rattle.parts.specs.declared.stage.BatchKind.{BatchKind}
+use Rattle.parts.specs.declared.stage.BatchKind.TheVariants as K
+use Rattle.parts.specs.declared.stage.InHand.{InHand}
+use Rattle.parts.specs.declared.stage.InHand.TheVariants as H
+use Rattle.parts.specs.declared.stage.Wanted.{Wanted}
+use Rattle.parts.specs.declared.stage.Haul.{Haul}
+use Rattle.parts.specs.declared.stage.AllStage.{AllStage}
+use Rattle.parts.specs.declared.stage.AllStage.TheVariants as A
+use Rattle.parts.specs.declared.stage.OneStage.{OneStage}
+use Rattle.parts.specs.declared.stage.OneStage.TheVariants as E
+use Rattle.parts.specs.declared.stage.TakeStage.TheVariants as X
+use Rattle.parts.specs.declared.stage.SwapStage.TheVariants as Q
+use Rattle.parts.specs.declared.stage.PutStage.{PutStage}
+use Rattle.parts.specs.declared.stage.PutStage.TheVariants as W
+use Rattle.parts.specs.declared.stage.ReserveStage.{ReserveStage}
+use Rattle.parts.specs.declared.stage.ReserveStage.TheVariants as Y
+use Rattle.parts.specs.declared.stage.SourceStage.TheVariants as S
+use Rattle.parts.specs.declared.stage.OwnStage.TheVariants as O
+use Rattle.parts.specs.declared.stage.Stage.{Stage}
+use Rattle.parts.specs.declared.stage.Stage.TheVariants.{Idle, Push, Pop, Steal, Length, OwnBatch, BatchSource, BatchOwn}
 use Rattle.machine.specs.declared.state.Machine.{Machine}
-use Rattle.machine.specs.State.{After, after, withQueue, withStage}
-use Rattle.machine.specs.Sound.{soundB}
-use Rattle.machine.specs.Claim.{freeRing}
-use Rattle.machine.specs.Setup.{freshMachine}
-use Rattle.machine.specs.Step.{gateOf, step_of}
+use Rattle.machine.specs.State.{After, after, with_queue, with_stage}
+use Rattle.machine.specs.Sound.{sound_b}
+use Rattle.machine.specs.Claim.{free_ring}
+use Rattle.machine.specs.Setup.{fresh_machine}
+use Rattle.machine.specs.Step.{gate_of, step_of}
 
 -- n numbers from i on: a pool's cells tell where they lie
 unfoldable pub from : ℕ → ℕ → List ℕ
@@ -62,7 +62,7 @@ pub record Line : Type 0 where
   pub own : Queue
   pub other : Queue
   pub stage : Stage
-  pub own-after : Queue
+  pub own_after : Queue
   pub other_after : Queue
   pub next : Stage
   pub answer : Answer
@@ -73,20 +73,20 @@ abbrev pub pool : List ℕ
 pool = from 0 768
 
 abbrev machine : Queue → Queue → Stage → Machine
-machine own other s = withStage (withQueue (withQueue (freshMachine 2 [] 3) 0 own) 1 other) 0 s
+machine own other s = with_stage (with_queue (with_queue (fresh_machine 2 [] 3) 0 own) 1 other) 0 s
 
 abbrev pub stepped : Line → After
 stepped l = step_of (machine l.own l.other l.stage) pool 0
 
 abbrev pub left : Line → After
-left l = after (machine l.own-after l.other_after l.next) l.answer l.cells
+left l = after (machine l.own_after l.other_after l.next) l.answer l.cells
 
 abbrev pub line : Queue → Queue → Stage → Queue → Queue → Stage → Answer → List ℕ → Line
 line q o s q' o' s' a c = record {
   own = q;
   other = o;
   stage = s;
-  own-after = q';
+  own_after = q';
   other_after = o';
   next = s';
   answer = a;
@@ -168,9 +168,9 @@ pushes =
     line q o (Pop M.BatchAndPop (P.Shrink 7 (Z.Swap (ring 9 2 64)))) (queue Fifo 3 5 (ring 9 2 64)) o Idle (B.Stolen (Success 7)) pool ∷
     []
 
-pub all-pushes : map stepped pushes ≡ map left pushes
-unfolding from step_of gateOf soundB freeRing all_below anyBelow firstNot allowedB twice_of ones ones_in spansB fullB sameB plusOf differenceOf wrap cell_of standsB spot read_of written_of
-all-pushes = refl
+pub all_pushes : map stepped pushes ≡ map left pushes
+unfolding from step_of gate_of sound_b free_ring all_below any_below first_not allowed_b twice_of ones ones_in spans_b full_b same_b plus_of difference_of wrap cell_of stands_b spot read_of written_of
+all_pushes = refl
 
 -- ---- steal from the other queue, and its length
 
@@ -219,9 +219,9 @@ steals =
     ends q o (OwnBatch (N.LoadFront (at 2))) (B.Stolen Empty) ∷
     []
 
-pub all-steals : map stepped steals ≡ map left steals
-unfolding from step_of gateOf soundB freeRing all_below anyBelow firstNot allowedB ones ones_in spansB emptyB sameB plusOf differenceOf length_of wrap cell_of standsB spot read_of
-all-steals = refl
+pub all_steals : map stepped steals ≡ map left steals
+unfolding from step_of gate_of sound_b free_ring all_below any_below first_not allowed_b ones ones_in spans_b empty_b same_b plus_of difference_of length_of wrap cell_of stands_b spot read_of
+all_steals = refl
 
 -- ---- batch from the other queue, up to the hold
 
@@ -256,8 +256,8 @@ put h s = BatchOwn 1 (O.Put h s)
 abbrev pub lifo : Queue
 lifo = other Lifo 3 8
 
-abbrev pub untilHeld : List Line
-untilHeld =
+abbrev pub until_held : List Line
+until_held =
     goes q o (BatchSource 1 (S.LoadFront K.Batch 9)) (BatchSource 1 (S.LoadBack K.Batch 9 (at 3))) ∷
     -- difference d <= 0: Empty
     ends q (other Fifo 3 3) (loads K.Batch 9) (B.Stolen Empty) ∷
@@ -295,9 +295,9 @@ untilHeld =
     goes q lifo (hold K.BatchAndPop 3) (BatchSource 1 (S.Take (haul 3 H.Nothing) X.ReadFirst)) ∷
     []
 
-pub all-until-held : map stepped untilHeld ≡ map left untilHeld
-unfolding from step_of gateOf soundB freeRing all_below anyBelow firstNot allowedB doubled holdingOf ones ones_in spansB emptyB differenceOf length_of wrap
-all-until-held = refl
+pub all_until_held : map stepped until_held ≡ map left until_held
+unfolding from step_of gate_of sound_b free_ring all_below any_below first_not allowed_b doubled holding_of ones ones_in spans_b empty_b difference_of length_of wrap
+all_until_held = refl
 
 -- ---- FIFO source, all at once
 
@@ -311,15 +311,15 @@ first = H.Job 259
 abbrev stale : InHand → Haul
 stale h = record { ring = old; f = at 3; n = 3; b = at 5; in_hand = h }
 
-abbrev stale-again : InHand → Haul
-stale-again h = record { ring = again; f = at 3; n = 3; b = at 5; in_hand = h }
+abbrev stale_again : InHand → Haul
+stale_again h = record { ring = again; f = at 3; n = 3; b = at 5; in_hand = h }
 
 -- the front that was loaded is another's
 abbrev late : InHand → Haul
 late h = record { ring = new; f = at 2; n = 3; b = at 5; in_hand = h }
 
-abbrev pub fromFifo : List Line
-fromFifo =
+abbrev pub from_fifo : List Line
+from_fifo =
     -- batch and pop: read cell f
     goes q o (BatchSource 1 (S.Take (haul 3 H.Nothing) X.ReadFirst)) (all (haul 3 first) (A.Copy 0)) ∷
     goes q o (BatchSource 1 (S.Take (haul 0 H.Nothing) X.ReadFirst)) (all (haul 0 first) A.ReloadRing) ∷
@@ -336,7 +336,7 @@ fromFifo =
     goes q o (all (haul 3 H.Nothing) A.ReloadRing) (all (haul 3 H.Nothing) A.Exchange) ∷
     ends q o (all (stale H.Nothing) A.ReloadRing) (B.Stolen Retry) ∷
     ends q o (all (stale first) A.ReloadRing) (B.Stolen Retry) ∷
-    ends q o (all (stale-again H.Nothing) A.ReloadRing) (B.Stolen Retry) ∷
+    ends q o (all (stale_again H.Nothing) A.ReloadRing) (B.Stolen Retry) ∷
     -- compare-exchange f to f + n, or to f + n + 1 (lost: Retry)
     takes q (other Fifo 3 8) (all (haul 3 H.Nothing) A.Exchange) (other Fifo 6 8) (put (haul 3 H.Nothing) W.StoreBack) ∷
     takes q (other Fifo 3 8) (all (haul 3 first) A.Exchange) (other Fifo 7 8) (put (haul 3 first) W.StoreBack) ∷
@@ -347,9 +347,9 @@ fromFifo =
     line q o (put (haul 3 first) W.StoreBack) (own Fifo 3 8) o Idle (B.Stolen (Success 259)) pool ∷
     []
 
-pub all-from-fifo : map stepped fromFifo ≡ map left fromFifo
-unfolding from step_of gateOf soundB freeRing all_below anyBelow firstNot allowedB ones ones_in spansB sameB plusOf minusOf differenceOf wrap cell_of standsB spot read_of written_of
-all-from-fifo = refl
+pub all_from_fifo : map stepped from_fifo ≡ map left from_fifo
+unfolding from step_of gate_of sound_b free_ring all_below any_below first_not allowed_b ones ones_in spans_b same_b plus_of minus_of difference_of wrap cell_of stands_b spot read_of written_of
+all_from_fifo = refl
 
 -- ---- LIFO source, one by one
 
@@ -361,17 +361,17 @@ from_front f n h = record { ring = new; f = at f; n = n; b = at 5; in_hand = h }
 abbrev stopped : ℕ → InHand → Haul
 stopped i h = from_front 3 i h
 
-abbrev stale-with : ℕ → InHand → Haul
-stale-with i h = record { ring = old; f = at 3; n = i; b = at 5; in_hand = h }
+abbrev stale_with : ℕ → InHand → Haul
+stale_with i h = record { ring = old; f = at 3; n = i; b = at 5; in_hand = h }
 
-abbrev late-with : ℕ → InHand → Haul
-late-with i h = record { ring = new; f = at 2; n = i; b = at 5; in_hand = h }
+abbrev late_with : ℕ → InHand → Haul
+late_with i h = record { ring = new; f = at 2; n = i; b = at 5; in_hand = h }
 
 abbrev pub reversing : PutStage
 reversing = W.Swap 0 Q.ReadNear
 
-abbrev pub fromLifo : List Line
-fromLifo =
+abbrev pub from_lifo : List Line
+from_lifo =
     -- batch and pop: read cell f; compare-exchange f to f + 1 at once (lost: Retry)
     goes q lifo (BatchSource 1 (S.Take (haul 3 H.Nothing) X.ReadFirst)) (one (haul 3 H.Nothing) (E.ExchangeFirst 259)) ∷
     takes q lifo (one (haul 3 H.Nothing) (E.ExchangeFirst 259)) (other Lifo 4 8) (one (from_front 4 3 first) (E.ReloadBack 0)) ∷
@@ -389,15 +389,15 @@ fromLifo =
     goes q lifo (one (stale H.Nothing) (E.Read 2)) (one (stale H.Nothing) (E.ReloadRing 2 515)) ∷
     -- load ring (changed: stop). None taken: Retry
     goes q lifo (one (haul 3 H.Nothing) (E.ReloadRing 2 259)) (one (haul 3 H.Nothing) (E.Exchange 2 259)) ∷
-    goes q lifo (one (stale H.Nothing) (E.ReloadRing 2 515)) (put (stale-with 2 H.Nothing) reversing) ∷
+    goes q lifo (one (stale H.Nothing) (E.ReloadRing 2 515)) (put (stale_with 2 H.Nothing) reversing) ∷
     ends q lifo (one (stale H.Nothing) (E.ReloadRing 0 515)) (B.Stolen Retry) ∷
-    ends q lifo (one (stale-again H.Nothing) (E.ReloadRing 0 259)) (B.Stolen Retry) ∷
-    goes q lifo (one (stale first) (E.ReloadRing 0 515)) (put (stale-with 0 first) W.StoreBack) ∷
+    ends q lifo (one (stale_again H.Nothing) (E.ReloadRing 0 259)) (B.Stolen Retry) ∷
+    goes q lifo (one (stale first) (E.ReloadRing 0 515)) (put (stale_with 0 first) W.StoreBack) ∷
     -- compare-exchange f to f + 1 (lost: stop); f goes up
     takes q lifo (one (haul 3 H.Nothing) (E.Exchange 2 700)) (other Lifo 4 8) (put (from_front 4 3 H.Nothing) (W.WriteOne 2 700)) ∷
-    goes into lifo (one (late H.Nothing) (E.Exchange 2 700)) (put (late-with 2 H.Nothing) W.StoreBack) ∷
+    goes into lifo (one (late H.Nothing) (E.Exchange 2 700)) (put (late_with 2 H.Nothing) W.StoreBack) ∷
     ends q lifo (one (late H.Nothing) (E.Exchange 0 700)) (B.Stolen Retry) ∷
-    goes q lifo (one (late first) (E.Exchange 0 700)) (put (late-with 0 first) W.StoreBack) ∷
+    goes q lifo (one (late first) (E.Exchange 0 700)) (put (late_with 0 first) W.StoreBack) ∷
     -- of a batch and pop: write the PREVIOUS job, and the one just taken is in hand
     takes q lifo (one (haul 3 first) (E.Exchange 2 700)) (other Lifo 4 8) (put (from_front 4 3 (H.Job 700)) (W.WriteOne 2 259)) ∷
     -- write own cell; the next, or after n reverse
@@ -415,6 +415,6 @@ fromLifo =
     line q lifo (put (haul 2 (H.Job 700)) W.StoreBack) (own Fifo 3 7) lifo Idle (B.Stolen (Success 700)) pool ∷
     []
 
-pub all-from-lifo : map stepped fromLifo ≡ map left fromLifo
-unfolding from step_of gateOf soundB freeRing all_below anyBelow firstNot allowedB ones ones_in spansB emptyB sameB plusOf minusOf differenceOf wrap cell_of standsB spot read_of written_of
-all-from-lifo = refl
+pub all_from_lifo : map stepped from_lifo ≡ map left from_lifo
+unfolding from step_of gate_of sound_b free_ring all_below any_below first_not allowed_b ones ones_in spans_b empty_b same_b plus_of minus_of difference_of wrap cell_of stands_b spot read_of written_of
+all_from_lifo = refl

@@ -2,10 +2,10 @@
 -- Index i lies in cell i modulo capacity. Capacity: 64, 128 or 256.
 use Rattle.std.specs.Prelude.{◌≡◌, ℕ, ◌+◌, ◌-◌, ◌^◌, Bool, true, false, List, [], ◌∷◌, map, ℤ, pos, negsuc, refl}
 use Rattle.index.specs.declared.Index.{Index}
-use Rattle.index.specs.Index.{wrap, plusOf, minusOf, differenceOf, length_of, behindB, emptyB, fullB, spansB, sameB, cell_of}
+use Rattle.index.specs.Index.{wrap, plus_of, minus_of, difference_of, length_of, behind_b, empty_b, full_b, spans_b, same_b, cell_of}
 use Rattle.ring.specs.declared.Capacity.{Capacity}
 use Rattle.ring.specs.declared.Capacity.TheVariants.{Of, TooLarge}
-use Rattle.ring.specs.Capacity.{twice_of, doubled, holdingOf}
+use Rattle.ring.specs.Capacity.{twice_of, doubled, holding_of}
 
 abbrev at : ℤ → Index
 at z = record { 0 = z }
@@ -14,8 +14,8 @@ at z = record { 0 = z }
 abbrev pub most : ℤ
 most = pos (2 ^ 63 - 1)
 
-abbrev pub minusOne : ℤ
-minusOne = negsuc 0
+abbrev pub minus_one : ℤ
+minus_one = negsuc 0
 
 abbrev pub least : ℤ
 least = negsuc (2 ^ 63 - 1)
@@ -32,14 +32,14 @@ abbrev sum : ℤ → ℕ → ℤ → ℤ → Sum
 sum i n p m = record { index = i; number = n; plus = p; minus = m }
 
 abbrev summed : Sum → Sum
-summed s = sum s.index s.number (plusOf (at s.index) s.number).0 (minusOf (at s.index) s.number).0
+summed s = sum s.index s.number (plus_of (at s.index) s.number).0 (minus_of (at s.index) s.number).0
 
 abbrev pub sums : List Sum
 sums =
     sum (pos 5) 2 (pos 7) (pos 3) ∷
-    sum (pos 0) 1 (pos 1) minusOne ∷
-    sum minusOne 1 (pos 0) (negsuc 1) ∷
-    sum minusOne 0 minusOne minusOne ∷
+    sum (pos 0) 1 (pos 1) minus_one ∷
+    sum minus_one 1 (pos 0) (negsuc 1) ∷
+    sum minus_one 0 minus_one minus_one ∷
     -- past the largest comes the smallest, and before the smallest the largest
     sum most 1 least (pos (2 ^ 63 - 2)) ∷
     sum least 1 (negsuc (2 ^ 63 - 2)) most ∷
@@ -49,9 +49,9 @@ sums =
     sum (pos 5) (2 ^ 64 - 1) (pos 4) (pos 6) ∷
     []
 
-pub all-sums : map summed sums ≡ sums
-unfolding wrap plusOf minusOf
-all-sums = refl
+pub all_sums : map summed sums ≡ sums
+unfolding wrap plus_of minus_of
+all_sums = refl
 
 -- ---- back and front: difference and length; and whether they are the same index
 
@@ -68,30 +68,30 @@ span b f d l s = record { back = b; front = f; difference = d; length = l; same 
 abbrev spanned : Span → Span
 spanned s =
     let b : Index = at s.back in
-    let f : Index = at s.front in span s.back s.front (differenceOf b f) (length_of b f) (sameB b f)
+    let f : Index = at s.front in span s.back s.front (difference_of b f) (length_of b f) (same_b b f)
 
 abbrev pub spans : List Span
 spans =
     span (pos 5) (pos 2) (pos 3) 3 false ∷
     span (pos 5) (pos 5) (pos 0) 0 true ∷
-    span minusOne minusOne (pos 0) 0 true ∷
+    span minus_one minus_one (pos 0) 0 true ∷
     -- below zero it is kept, and the length is then 0
-    span (pos 1) (pos 2) minusOne 0 false ∷
+    span (pos 1) (pos 2) minus_one 0 false ∷
     span (pos 2) (pos 5) (negsuc 2) 0 false ∷
-    span minusOne (pos 0) minusOne 0 false ∷
-    span (pos 0) minusOne (pos 1) 1 false ∷
+    span minus_one (pos 0) minus_one 0 false ∷
+    span (pos 0) minus_one (pos 1) 1 false ∷
     -- across the wrap
     span least most (pos 1) 1 false ∷
-    span most least minusOne 0 false ∷
-    span most minusOne least 0 false ∷
-    span minusOne least most (2 ^ 63 - 1) false ∷
-    span least minusOne (negsuc (2 ^ 63 - 2)) 0 false ∷
+    span most least minus_one 0 false ∷
+    span most minus_one least 0 false ∷
+    span minus_one least most (2 ^ 63 - 1) false ∷
+    span least minus_one (negsuc (2 ^ 63 - 2)) 0 false ∷
     span (pos 0) least least 0 false ∷
     []
 
-pub all-spans : map spanned spans ≡ spans
-unfolding wrap differenceOf length_of sameB
-all-spans = refl
+pub all_spans : map spanned spans ≡ spans
+unfolding wrap difference_of length_of same_b
+all_spans = refl
 
 -- ---- a difference, as a queue of 64 cells is asked about it: below 0; 0 or below; 64 or above; from -1 to 64
 
@@ -100,21 +100,21 @@ pub record Asked : Type 0 where
   pub behind : Bool
   pub empty : Bool
   pub full : Bool
-  pub in-range : Bool
+  pub in_range : Bool
 
 abbrev asked : ℤ → Bool → Bool → Bool → Bool → Asked
-asked d b e f r = record { difference = d; behind = b; empty = e; full = f; in-range = r }
+asked d b e f r = record { difference = d; behind = b; empty = e; full = f; in_range = r }
 
 abbrev ask : Asked → Asked
 ask a =
     let f : Index = at (pos 0) in
-    let b : Index = at a.difference in asked a.difference (behindB b f) (emptyB b f) (fullB b f 64) (spansB b f 64)
+    let b : Index = at a.difference in asked a.difference (behind_b b f) (empty_b b f) (full_b b f 64) (spans_b b f 64)
 
 abbrev pub questions : List Asked
 questions =
     asked least true true false false ∷
     asked (negsuc 1) true true false false ∷
-    asked minusOne true true false true ∷
+    asked minus_one true true false true ∷
     asked (pos 0) false true false true ∷
     asked (pos 1) false false false true ∷
     asked (pos 63) false false false true ∷
@@ -123,9 +123,9 @@ questions =
     asked most false false true false ∷
     []
 
-pub all-questions : map ask questions ≡ questions
-unfolding wrap differenceOf behindB emptyB fullB spansB
-all-questions = refl
+pub all_questions : map ask questions ≡ questions
+unfolding wrap difference_of behind_b empty_b full_b spans_b
+all_questions = refl
 
 -- ---- an index, and its cell in a ring of 64, 128 and 256 cells
 
@@ -151,7 +151,7 @@ cells =
     cell (pos 256) 0 0 0 ∷
     cell (pos 330) 10 74 74 ∷
     -- -1 lies in the last cell
-    cell minusOne 63 127 255 ∷
+    cell minus_one 63 127 255 ∷
     cell (negsuc 63) 0 64 192 ∷
     cell (negsuc 64) 63 63 191 ∷
     -- the largest index in the last, the smallest in the first: the wrap goes on from cell to cell
@@ -159,9 +159,9 @@ cells =
     cell least 0 0 0 ∷
     []
 
-pub all-cells : map found cells ≡ cells
+pub all_cells : map found cells ≡ cells
 unfolding cell_of
-all-cells = refl
+all_cells = refl
 
 -- ---- a number of jobs or a capacity: twice the one, and the smallest capacity that holds the other
 
@@ -174,7 +174,7 @@ abbrev size : ℕ → Capacity → Capacity → Size
 size n t h = record { number = n; twice = t; holding = h }
 
 abbrev sized : Size → Size
-sized s = size s.number (twice_of s.number) (holdingOf s.number)
+sized s = size s.number (twice_of s.number) (holding_of s.number)
 
 abbrev pub sizes : List Size
 sizes =
@@ -189,6 +189,6 @@ sizes =
     size (2 ^ 64 + 3) TooLarge TooLarge ∷
     []
 
-pub all-sizes : map sized sizes ≡ sizes
-unfolding twice_of doubled holdingOf
-all-sizes = refl
+pub all_sizes : map sized sizes ≡ sizes
+unfolding twice_of doubled holding_of
+all_sizes = refl

@@ -1,24 +1,24 @@
 -- A pop and a thief at one queue, step by step: who gets the last job, and which difference a shrink goes by. Cell i holds job i.
 use Rattle.std.specs.Prelude.{◌≡◌, ℕ, true, List, [], ◌∷◌, ◌++◌, replicate, ℤ, pos, refl}
 use Rattle.std.specs.Int.Count.{ones, ones_in}
-use Rattle.base.specs.Below.{all_below, anyBelow, firstNot}
-use Rattle.index.specs.Index.{wrap, plusOf, minusOf, differenceOf, length_of, behindB, emptyB, fullB, spansB, sameB, cell_of}
-use Rattle.ring.specs.Capacity.{allowedB, twice_of}
-use Rattle.cells.specs.Cells.{standsB, spot, read_of, written_of}
+use Rattle.base.specs.Below.{all_below, any_below, first_not}
+use Rattle.index.specs.Index.{wrap, plus_of, minus_of, difference_of, length_of, behind_b, empty_b, full_b, spans_b, same_b, cell_of}
+use Rattle.ring.specs.Capacity.{allowed_b, twice_of}
+use Rattle.cells.specs.Cells.{stands_b, spot, read_of, written_of}
 use Rattle.steal.specs.declared.Steal.TheVariants.{Success, Retry}
-use Rattle.std.specs.declared.queue.Flavor.{Flavor}
-use Rattle.std.specs.declared.queue.Flavor.TheVariants.{Fifo, Lifo}
-use Rattle.std.specs.declared.queue.Queue.{Queue}
-use Rattle.std.specs.declared.answer.Answer.{Answer}
-use Rattle.std.specs.declared.answer.Answer.TheVariants as A
+use Rattle.parts.specs.declared.queue.Flavor.{Flavor}
+use Rattle.parts.specs.declared.queue.Flavor.TheVariants.{Fifo, Lifo}
+use Rattle.parts.specs.declared.queue.Queue.{Queue}
+use Rattle.parts.specs.declared.answer.Answer.{Answer}
+use Rattle.parts.specs.declared.answer.Answer.TheVariants as A
 use Rattle.gate.specs.declared.Operation.TheVariants.{Push, Pop, Steal}
-use Rattle.machine.specs.State.{After, after, queueAt, withQueue}
-use Rattle.machine.specs.Sound.{soundB}
-use Rattle.machine.specs.Claim.{freeRing}
-use Rattle.machine.specs.Setup.{freshMachine}
-use Rattle.machine.specs.Step.{gateOf, step_of}
-use Rattle.machine.specs.Begin.{beginOf}
-use Rattle.games.specs.Play.{Alone, Sized, sized, begin, step, steps, alone, repeated, finish, fuelFor, answer_of}
+use Rattle.machine.specs.State.{After, after, queue_at, with_queue}
+use Rattle.machine.specs.Sound.{sound_b}
+use Rattle.machine.specs.Claim.{free_ring}
+use Rattle.machine.specs.Setup.{fresh_machine}
+use Rattle.machine.specs.Step.{gate_of, step_of}
+use Rattle.machine.specs.Begin.{begin_of}
+use Rattle.games.specs.Play.{Alone, Sized, sized, begin, step, steps, alone, repeated, finish, fuel_for, answer_of}
 use Rattle.witness.specs.Lines.{from}
 
 abbrev queue : Flavor → ℕ → ℕ → ℕ → Queue
@@ -31,7 +31,7 @@ queue fl f b c = record {
 
 -- two queues, three places; queue 0 has this flavour, front, back and capacity
 abbrev with : Flavor → ℕ → ℕ → ℕ → After
-with fl f b c = after (withQueue (freshMachine 2 (Fifo ∷ Fifo ∷ []) 3) 0 (queue fl f b c)) A.Done (from 0 768)
+with fl f b c = after (with_queue (fresh_machine 2 (Fifo ∷ Fifo ∷ []) 3) 0 (queue fl f b c)) A.Done (from 0 768)
 
 -- ---- after a step: its answer, and front and back of queue 0
 
@@ -46,8 +46,8 @@ seen a f b = record { answer = a; front = pos f; back = pos b }
 abbrev look : After → Seen
 look a = record {
   answer = answer_of a;
-  front = (queueAt a.called.machine 0).front.0;
-  back = (queueAt a.called.machine 0).back.0;
+  front = (queue_at a.called.machine 0).front.0;
+  back = (queue_at a.called.machine 0).back.0;
 }
 
 -- steps of these threads, in this order
@@ -90,18 +90,18 @@ pub last-job :
     played (1 ∷ 1 ∷ 1 ∷ 1 ∷ 1 ∷ 0 ∷ 0 ∷ 0 ∷ 0 ∷ 0 ∷ 0 ∷ 1 ∷ 0 ∷ []) both ∷
     [] ≡
     taken ∷ lost ∷ won ∷ []
-unfolding from played all_below anyBelow firstNot wrap plusOf minusOf differenceOf length_of behindB emptyB spansB sameB cell_of allowedB standsB spot read_of soundB freeRing gateOf step_of beginOf ones ones_in
+unfolding from played all_below any_below first_not wrap plus_of minus_of difference_of length_of behind_b empty_b spans_b same_b cell_of allowed_b stands_b spot read_of sound_b free_ring gate_of step_of begin_of ones ones_in
 last-job = refl
 
 -- ---- capacity 128: the owner does two steps of a pop, a thief takes so many jobs, and the owner goes on: its answer, its steps, and the capacity
 
-abbrev after-thief : Flavor → ℕ → ℕ → Sized
-after-thief fl jobs stolen =
-    let r : Alone = finish fuelFor 0 true 2 (repeated stolen 1 (λ (i : ℕ). Steal 0) 0 (steps 0 2 (begin 0 Pop (with fl 0 jobs 128)))) in
-    sized (answer_of r.left) r.steps (queueAt r.left.called.machine 0).ring.capacity
+abbrev after_thief : Flavor → ℕ → ℕ → Sized
+after_thief fl jobs stolen =
+    let r : Alone = finish fuel_for 0 true 2 (repeated stolen 1 (λ (i : ℕ). Steal 0) 0 (steps 0 2 (begin 0 Pop (with fl 0 jobs 128)))) in
+    sized (answer_of r.left) r.steps (queue_at r.left.called.machine 0).ring.capacity
 
 pub shrinks :
-    after-thief Fifo 33 5 ∷ after-thief Fifo 32 5 ∷ after-thief Lifo 40 7 ∷ after-thief Lifo 40 8 ∷ [] ≡
+    after_thief Fifo 33 5 ∷ after_thief Fifo 32 5 ∷ after_thief Lifo 40 7 ∷ after_thief Lifo 40 8 ∷ [] ≡
     -- FIFO: the difference first seen, 33, is above a quarter; 32 is not, and the 26 that are left are copied
     sized (A.Job 5) 4 128 ∷
     sized (A.Job 5) 33 64 ∷
@@ -109,7 +109,7 @@ pub shrinks :
     sized (A.Job 39) 5 128 ∷
     sized (A.Job 39) 39 64 ∷
     []
-unfolding from steps repeated finish all_below anyBelow firstNot wrap plusOf minusOf differenceOf length_of behindB emptyB spansB sameB cell_of allowedB standsB spot read_of written_of soundB freeRing gateOf step_of beginOf ones ones_in
+unfolding from steps repeated finish all_below any_below first_not wrap plus_of minus_of difference_of length_of behind_b empty_b spans_b same_b cell_of allowed_b stands_b spot read_of written_of sound_b free_ring gate_of step_of begin_of ones ones_in
 shrinks = refl
 
 -- ---- a thief has read job 0 when the owner pushes on 64 of 64 and grows: the ring has another number, and the thief answers Retry
@@ -118,5 +118,5 @@ abbrev read : After
 read = steps 1 4 (begin 1 (Steal 0) (with Fifo 0 64 64))
 
 pub grown : played (1 ∷ []) (alone 0 (Push 900) read).left ≡ seen (A.Stolen Retry) 0 65 ∷ []
-unfolding from played steps finish all_below anyBelow firstNot wrap plusOf differenceOf length_of emptyB fullB spansB sameB cell_of allowedB twice_of standsB spot read_of written_of soundB freeRing gateOf step_of beginOf ones ones_in
+unfolding from played steps finish all_below any_below first_not wrap plus_of difference_of length_of empty_b full_b spans_b same_b cell_of allowed_b twice_of stands_b spot read_of written_of sound_b free_ring gate_of step_of begin_of ones ones_in
 grown = refl

@@ -3,38 +3,38 @@
 use Rattle.std.specs.Prelude.{◌≡◌, ℕ, ◌-◌, ◌^◌, List, [], ◌∷◌, map, replicate, pos, refl}
 use Rattle.std.specs.Int.Count.{ones, ones_in}
 use Rattle.base.specs.Below.{all_below}
-use Rattle.index.specs.Index.{wrap, differenceOf, spansB}
-use Rattle.ring.specs.Capacity.{allowedB}
-use Rattle.std.specs.declared.answer.Answer.{Answer}
-use Rattle.std.specs.declared.answer.Answer.TheVariants as A
-use Rattle.std.specs.declared.answer.Refusal.{Refusal}
-use Rattle.std.specs.declared.answer.Refusal.TheVariants as R
-use Rattle.std.specs.declared.answer.Shortage.TheVariants as H
+use Rattle.index.specs.Index.{wrap, difference_of, spans_b}
+use Rattle.ring.specs.Capacity.{allowed_b}
+use Rattle.parts.specs.declared.answer.Answer.{Answer}
+use Rattle.parts.specs.declared.answer.Answer.TheVariants as A
+use Rattle.parts.specs.declared.answer.Refusal.{Refusal}
+use Rattle.parts.specs.declared.answer.Refusal.TheVariants as R
+use Rattle.parts.specs.declared.answer.Shortage.TheVariants as H
 use Rattle.steal.specs.declared.Steal.TheVariants as T
-use Rattle.std.specs.Answers.{told, says, Told}
-use Rattle.std.specs.declared.queue.Flavor.{Flavor}
-use Rattle.std.specs.declared.queue.Flavor.TheVariants.{Fifo, Lifo}
-use Rattle.std.specs.declared.queue.Queue.{Queue}
-use Rattle.std.specs.declared.stage.FifoPopStage.TheVariants as D
-use Rattle.std.specs.declared.stage.LifoPopStage.TheVariants as L
-use Rattle.std.specs.declared.stage.PushStage.TheVariants as U
-use Rattle.std.specs.declared.stage.PopStage.TheVariants as P
-use Rattle.std.specs.declared.stage.Popper.TheVariants as W
-use Rattle.std.specs.declared.stage.StealStage.TheVariants as E
-use Rattle.std.specs.declared.stage.LengthStage.TheVariants as N
-use Rattle.std.specs.declared.stage.BatchKind.TheVariants as K
-use Rattle.std.specs.declared.stage.SourceStage.TheVariants as S
-use Rattle.std.specs.declared.stage.Stage.{Stage}
-use Rattle.std.specs.declared.stage.Stage.TheVariants as G
+use Rattle.parts.specs.Answers.{told, says, Told}
+use Rattle.parts.specs.declared.queue.Flavor.{Flavor}
+use Rattle.parts.specs.declared.queue.Flavor.TheVariants.{Fifo, Lifo}
+use Rattle.parts.specs.declared.queue.Queue.{Queue}
+use Rattle.parts.specs.declared.stage.FifoPopStage.TheVariants as D
+use Rattle.parts.specs.declared.stage.LifoPopStage.TheVariants as L
+use Rattle.parts.specs.declared.stage.PushStage.TheVariants as U
+use Rattle.parts.specs.declared.stage.PopStage.TheVariants as P
+use Rattle.parts.specs.declared.stage.Popper.TheVariants as W
+use Rattle.parts.specs.declared.stage.StealStage.TheVariants as E
+use Rattle.parts.specs.declared.stage.LengthStage.TheVariants as N
+use Rattle.parts.specs.declared.stage.BatchKind.TheVariants as K
+use Rattle.parts.specs.declared.stage.SourceStage.TheVariants as S
+use Rattle.parts.specs.declared.stage.Stage.{Stage}
+use Rattle.parts.specs.declared.stage.Stage.TheVariants as G
 use Rattle.gate.specs.declared.Operation.{Operation}
 use Rattle.gate.specs.declared.Operation.TheVariants.{Push, Pop, Length, Steal, Batch, BatchAndPop}
 use Rattle.machine.specs.declared.state.Machine.{Machine}
-use Rattle.machine.specs.State.{After, after, refused, withQueue, withStage}
-use Rattle.machine.specs.Sound.{soundB}
-use Rattle.machine.specs.Setup.{zeroMachine, setupOf}
-use Rattle.machine.specs.Step.{gateOf, step_of}
-use Rattle.machine.specs.Begin.{beginOf}
-use Rattle.witness.specs.Stages.{ringAt}
+use Rattle.machine.specs.State.{After, after, refused, with_queue, with_stage}
+use Rattle.machine.specs.Sound.{sound_b}
+use Rattle.machine.specs.Setup.{zero_machine, setup_of}
+use Rattle.machine.specs.Step.{gate_of, step_of}
+use Rattle.machine.specs.Begin.{begin_of}
+use Rattle.witness.specs.Stages.{ring_at}
 
 abbrev pool : ℕ → List ℕ
 pool n = replicate n 5
@@ -53,8 +53,8 @@ pub record Setup : Type 0 where
 abbrev setup : ℕ → ℕ → ℕ → Answer → Setup
 setup k n len a = record { queues = k; places = n; cells = len; answer = a }
 
-abbrev setUp : Setup → After
-setUp s = setupOf s.queues four s.places (pool s.cells)
+abbrev set_up : Setup → After
+set_up s = setup_of s.queues four s.places (pool s.cells)
 
 abbrev two : ℕ → ℕ → ℕ → Setup
 two k n len = setup k n len (A.Refused R.Counts)
@@ -86,21 +86,21 @@ setups =
 
 -- the machine given is all zeros, and the pool is as it was
 abbrev zeroed : Setup → After
-zeroed s = after zeroMachine s.answer (pool s.cells)
+zeroed s = after zero_machine s.answer (pool s.cells)
 
-pub all-setups : map setUp setups ≡ map zeroed setups
-unfolding setupOf
-all-setups = refl
+pub all_setups : map set_up setups ≡ map zeroed setups
+unfolding setup_of
+all_setups = refl
 
 abbrev answer_of : Setup → Setup
-answer_of s = setup s.queues s.places s.cells (setUp s).called.answer
+answer_of s = setup s.queues s.places s.cells (set_up s).called.answer
 
 abbrev pub accepted : List Setup
 accepted = setup 1 1 256 A.Done ∷ setup 4 4 1024 A.Done ∷ setup 1 16 4096 A.Done ∷ setup 4 16 4096 A.Done ∷ []
 
-pub all-accepted : map answer_of accepted ≡ accepted
-unfolding setupOf
-all-accepted = refl
+pub all_accepted : map answer_of accepted ≡ accepted
+unfolding setup_of
+all_accepted = refl
 
 -- at setup queue q has ring q in place q, capacity 64, front and back 0; setup writes no cell
 abbrev started : Flavor → ℕ → Queue
@@ -129,27 +129,27 @@ at_start = record {
   next_ring = record { 0 = 2 };
 }
 
-pub the-start : setupOf 2 four 2 (pool 512) ≡ after at_start A.Done (pool 512)
-unfolding setupOf
-the-start = refl
+pub the_start : setup_of 2 four 2 (pool 512) ≡ after at_start A.Done (pool 512)
+unfolding setup_of
+the_start = refl
 
 -- ---- begin and step
 
 -- thread 0 is busy; queue 1 has a capacity that is not allowed; both
 abbrev busy : Machine
-busy = withStage at_start 0 (G.Push 7 U.LoadBack)
+busy = with_stage at_start 0 (G.Push 7 U.LoadBack)
 
 abbrev broken : Machine → Machine
-broken m = withQueue m 1 (record {
+broken m = with_queue m 1 (record {
   flavor = Lifo;
   front = record { 0 = pos 0 };
   back = record { 0 = pos 0 };
-  ring = ringAt 1 65;
+  ring = ring_at 1 65;
 })
 
 -- thread 2, which is not there, is busy
-abbrev busyTwo : Machine
-busyTwo = withStage at_start 2 (G.Push 7 U.LoadBack)
+abbrev busy_two : Machine
+busy_two = with_stage at_start 2 (G.Push 7 U.LoadBack)
 
 -- a machine, a pool of so many cells, a thread, and what it is to begin
 pub record Begin : Type 0 where
@@ -163,10 +163,10 @@ abbrev begin : Machine → ℕ → ℕ → Operation → Refusal → Begin
 begin m len t o r = record { machine = m; cells = len; thread = t; operation = o; refusal = r }
 
 abbrev begun : Begin → After
-begun b = beginOf b.machine (pool b.cells) b.thread b.operation
+begun b = begin_of b.machine (pool b.cells) b.thread b.operation
 
-abbrev asItWas : Begin → After
-asItWas b = refused b.machine b.refusal (pool b.cells)
+abbrev as_it_was : Begin → After
+as_it_was b = refused b.machine b.refusal (pool b.cells)
 
 abbrev pub begins : List Begin
 begins =
@@ -188,7 +188,7 @@ begins =
     begin at_start 512 2 Pop R.NoSuch ∷
     begin at_start 512 (2 ^ 64 - 1) (Push 7) R.NoSuch ∷
     begin at_start 512 2 (Steal 2) R.NoSuch ∷
-    begin busyTwo 512 2 Pop R.NoSuch ∷
+    begin busy_two 512 2 Pop R.NoSuch ∷
     begin at_start 512 2 (Batch 1 0) R.NoSuch ∷
     -- 4, no such source queue, for each operation that names one; and before 5, 7
     begin at_start 512 0 (Length 2) R.NoSuch ∷
@@ -210,9 +210,9 @@ begins =
     begin at_start 512 0 (BatchAndPop 0 0) R.NoLimit ∷
     []
 
-pub all-begins : map begun begins ≡ map asItWas begins
-unfolding beginOf gateOf soundB all_below allowedB ones ones_in spansB differenceOf wrap
-all-begins = refl
+pub all_begins : map begun begins ≡ map as_it_was begins
+unfolding begin_of gate_of sound_b all_below allowed_b ones ones_in spans_b difference_of wrap
+all_begins = refl
 
 -- begin stores the operation and touches nothing shared: a thread, what it begins, and its stage then
 pub record Start : Type 0 where
@@ -224,10 +224,10 @@ abbrev start : ℕ → Operation → Stage → Start
 start t o s = record { thread = t; operation = o; stage = s }
 
 abbrev starting : Start → After
-starting s = beginOf at_start (pool 512) s.thread s.operation
+starting s = begin_of at_start (pool 512) s.thread s.operation
 
 abbrev stored : Start → After
-stored s = after (withStage at_start s.thread s.stage) A.Working (pool 512)
+stored s = after (with_stage at_start s.thread s.stage) A.Working (pool 512)
 
 abbrev pub starts : List Start
 starts =
@@ -250,9 +250,9 @@ starts =
     start 1 (BatchAndPop 1 9) (G.Pop W.BatchAndPop (P.Lifo L.LoadBack)) ∷
     []
 
-pub all-starts : map starting starts ≡ map stored starts
-unfolding beginOf gateOf soundB all_below allowedB ones ones_in spansB differenceOf wrap
-all-starts = refl
+pub all_starts : map starting starts ≡ map stored starts
+unfolding begin_of gate_of sound_b all_below allowed_b ones ones_in spans_b difference_of wrap
+all_starts = refl
 
 -- a step
 pub record Step : Type 0 where
@@ -267,8 +267,8 @@ step m len t r = record { machine = m; cells = len; thread = t; refusal = r }
 abbrev stepped : Step → After
 stepped s = step_of s.machine (pool s.cells) s.thread
 
-abbrev asBefore : Step → After
-asBefore s = refused s.machine s.refusal (pool s.cells)
+abbrev as_before : Step → After
+as_before s = refused s.machine s.refusal (pool s.cells)
 
 abbrev pub steps : List Step
 steps =
@@ -283,7 +283,7 @@ steps =
     step busy 511 2 R.PoolLength ∷
     step busy 511 1 R.PoolLength ∷
     -- 4 alone, of a thread that is not there and has an operation, and before 6
-    step busyTwo 512 2 R.NoSuch ∷
+    step busy_two 512 2 R.NoSuch ∷
     step busy 512 2 R.NoSuch ∷
     step at_start 512 (2 ^ 64 - 1) R.NoSuch ∷
     -- 6
@@ -291,9 +291,9 @@ steps =
     step at_start 512 0 R.Idle ∷
     []
 
-pub all-steps : map stepped steps ≡ map asBefore steps
-unfolding step_of gateOf soundB all_below allowedB ones ones_in spansB differenceOf wrap
-all-steps = refl
+pub all_steps : map stepped steps ≡ map as_before steps
+unfolding step_of gate_of sound_b all_below allowed_b ones ones_in spans_b difference_of wrap
+all_steps = refl
 
 -- ---- the numbers of the table, and what each answer says: its kind, its number, its job or a length's difference, a length
 

@@ -3,16 +3,16 @@
 use Rattle.std.specs.Prelude.{◌≡◌, ℕ, ◌-◌, ◌^◌, List, [], ◌∷◌, map, pos, refl}
 use Rattle.std.specs.Int.Count.{ones, ones_in}
 use Rattle.base.specs.Below.{all_below}
-use Rattle.index.specs.Index.{wrap, differenceOf, spansB}
-use Rattle.ring.specs.Capacity.{allowedB}
-use Rattle.std.specs.declared.queue.Flavor.TheVariants.{Fifo, Lifo}
+use Rattle.index.specs.Index.{wrap, difference_of, spans_b}
+use Rattle.ring.specs.Capacity.{allowed_b}
+use Rattle.parts.specs.declared.queue.Flavor.TheVariants.{Fifo, Lifo}
 use Rattle.machine.specs.declared.state.Machine.{Machine}
-use Rattle.machine.specs.State.{withQueue}
-use Rattle.machine.specs.Sound.{soundB}
-use Rattle.machine.specs.Setup.{zeroMachine, freshMachine}
+use Rattle.machine.specs.State.{with_queue}
+use Rattle.machine.specs.Sound.{sound_b}
+use Rattle.machine.specs.Setup.{zero_machine, fresh_machine}
 use Rattle.machine.specs.declared.shown.Part.{Part}
-use Rattle.machine.specs.Shown.{shownPart, shownOf}
-use Rattle.witness.specs.Stages.{ringAt}
+use Rattle.machine.specs.Shown.{shown_part, shown_of}
+use Rattle.witness.specs.Stages.{ring_at}
 use Rattle.witness.specs.Lines.{from}
 
 -- a machine, a pool of so many cells, a queue; the first cell that is shown, how many, and the cells
@@ -29,19 +29,19 @@ row m len q a n l = record { machine = m; cells = len; queue = q; start = a; cou
 
 abbrev showing : Row → Row
 showing r =
-    let p : Part = shownPart r.machine r.cells r.queue in row r.machine r.cells r.queue p.start p.count (shownOf p (from 0 r.cells))
+    let p : Part = shown_part r.machine r.cells r.queue in row r.machine r.cells r.queue p.start p.count (shown_of p (from 0 r.cells))
 
 -- two queues, three places
 abbrev two : Machine
-two = freshMachine 2 (Fifo ∷ Lifo ∷ []) 3
+two = fresh_machine 2 (Fifo ∷ Lifo ∷ []) 3
 
 -- queue 1 in another ring
 abbrev ringed : ℕ → ℕ → Machine
-ringed place capacity = withQueue two 1 (record {
+ringed place capacity = with_queue two 1 (record {
   flavor = Lifo;
   front = record { 0 = pos 70 };
   back = record { 0 = pos 71 };
-  ring = ringAt place capacity;
+  ring = ring_at place capacity;
 })
 
 abbrev pub rows : List Row
@@ -53,7 +53,7 @@ rows =
     row (ringed 2 128) 768 1 512 128 (from 512 128) ∷
     row (ringed 1 256) 768 1 256 256 (from 256 256) ∷
     -- an unsound state
-    row zeroMachine 0 0 0 0 [] ∷
+    row zero_machine 0 0 0 0 [] ∷
     row (ringed 1 65) 768 1 0 0 [] ∷
     row (ringed 1 65) 768 0 0 0 [] ∷
     row (ringed 0 64) 768 0 0 0 [] ∷
@@ -68,6 +68,6 @@ rows =
     row two 768 (2 ^ 64 - 1) 0 0 [] ∷
     []
 
-pub all-rows : map showing rows ≡ rows
-unfolding from shownPart soundB all_below allowedB ones ones_in spansB differenceOf wrap
-all-rows = refl
+pub all_rows : map showing rows ≡ rows
+unfolding from shown_part sound_b all_below allowed_b ones ones_in spans_b difference_of wrap
+all_rows = refl

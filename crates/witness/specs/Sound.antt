@@ -3,28 +3,28 @@
 use Rattle.std.specs.Prelude.{◌≡◌, ℕ, ◌-◌, ◌^◌, List, [], ◌∷◌, ◌++◌, map, ℤ, pos, negsuc, refl}
 use Rattle.std.specs.Int.Count.{ones, ones_in}
 use Rattle.base.specs.Below.{all_below}
-use Rattle.index.specs.Index.{wrap, differenceOf, spansB}
+use Rattle.index.specs.Index.{wrap, difference_of, spans_b}
 use Rattle.ring.specs.declared.Ring.{Ring}
-use Rattle.ring.specs.Capacity.{allowedB}
-use Rattle.std.specs.declared.answer.Refusal.{Refusal}
-use Rattle.std.specs.declared.answer.Refusal.TheVariants.{PoolLength, Unsound}
-use Rattle.std.specs.declared.queue.Flavor.TheVariants.{Fifo, Lifo}
-use Rattle.std.specs.declared.queue.Queue.{Queue}
-use Rattle.std.specs.declared.stage.ResizeStage.TheVariants.{Swap}
-use Rattle.std.specs.declared.stage.PushStage.TheVariants.{Resize}
-use Rattle.std.specs.declared.stage.StealStage.TheVariants.{Read}
-use Rattle.std.specs.declared.stage.LengthStage.TheVariants.{LoadBack}
-use Rattle.std.specs.declared.stage.Stage.{Stage}
-use Rattle.std.specs.declared.stage.Stage.TheVariants as G
-use Rattle.std.specs.Queues.{zeroIndex}
+use Rattle.ring.specs.Capacity.{allowed_b}
+use Rattle.parts.specs.declared.answer.Refusal.{Refusal}
+use Rattle.parts.specs.declared.answer.Refusal.TheVariants.{PoolLength, Unsound}
+use Rattle.parts.specs.declared.queue.Flavor.TheVariants.{Fifo, Lifo}
+use Rattle.parts.specs.declared.queue.Queue.{Queue}
+use Rattle.parts.specs.declared.stage.ResizeStage.TheVariants.{Swap}
+use Rattle.parts.specs.declared.stage.PushStage.TheVariants.{Resize}
+use Rattle.parts.specs.declared.stage.StealStage.TheVariants.{Read}
+use Rattle.parts.specs.declared.stage.LengthStage.TheVariants.{LoadBack}
+use Rattle.parts.specs.declared.stage.Stage.{Stage}
+use Rattle.parts.specs.declared.stage.Stage.TheVariants as G
+use Rattle.parts.specs.Queues.{zero_index}
 use Rattle.gate.specs.declared.Operation.TheVariants.{Pop}
 use Rattle.machine.specs.declared.state.Machine.{Machine}
-use Rattle.machine.specs.State.{After, refused, withQueue, withStage}
-use Rattle.machine.specs.Sound.{soundB}
-use Rattle.machine.specs.Setup.{idleThreads, zeroMachine, freshMachine}
-use Rattle.machine.specs.Step.{gateOf, step_of}
-use Rattle.machine.specs.Begin.{beginOf}
-use Rattle.witness.specs.Stages.{ringAt, building, holding, resizing, naming, before, past, counting, plain}
+use Rattle.machine.specs.State.{After, refused, with_queue, with_stage}
+use Rattle.machine.specs.Sound.{sound_b}
+use Rattle.machine.specs.Setup.{idle_threads, zero_machine, fresh_machine}
+use Rattle.machine.specs.Step.{gate_of, step_of}
+use Rattle.machine.specs.Begin.{begin_of}
+use Rattle.witness.specs.Stages.{ring_at, building, holding, resizing, naming, before, past, counting, plain}
 
 -- ---- a machine, and what calls of it are refused with
 
@@ -38,27 +38,27 @@ sound m = record { machine = m; refusal = PoolLength }
 abbrev unsound : Machine → Row
 unsound m = record { machine = m; refusal = Unsound }
 
-abbrev oneCell : List ℕ
-oneCell = 9 ∷ []
+abbrev one_cell : List ℕ
+one_cell = 9 ∷ []
 
 abbrev begun : Row → After
-begun r = beginOf r.machine oneCell 0 Pop
+begun r = begin_of r.machine one_cell 0 Pop
 
 abbrev stepped : Row → After
-stepped r = step_of r.machine oneCell 0
+stepped r = step_of r.machine one_cell 0
 
-abbrev asItWas : Row → After
-asItWas r = refused r.machine r.refusal oneCell
+abbrev as_it_was : Row → After
+as_it_was r = refused r.machine r.refusal one_cell
 
 -- a step is refused as the rows say, and leaves all as it was
 abbrev pub Judged : List Row → Type 0
-Judged rows = map stepped rows ≡ map asItWas rows
+Judged rows = map stepped rows ≡ map as_it_was rows
 
 -- ---- machines with one part changed
 
 -- k queues, n places: ring q in place q, and the other places are free
 abbrev fresh : ℕ → ℕ → Machine
-fresh k n = freshMachine k (Fifo ∷ Lifo ∷ Fifo ∷ Lifo ∷ []) n
+fresh k n = fresh_machine k (Fifo ∷ Lifo ∷ Fifo ∷ Lifo ∷ []) n
 
 abbrev spanning : ℤ → ℤ → Ring → Queue
 spanning f b ring = record { flavor = Fifo; front = record { 0 = f }; back = record { 0 = b }; ring = ring }
@@ -69,8 +69,8 @@ empty ring = spanning (pos 0) (pos 0) ring
 -- five queues in five places, one queue more than a machine's arrays have
 abbrev five : Machine
 five = record {
-  queues = empty (ringAt 0 64) ∷ empty (ringAt 1 64) ∷ empty (ringAt 2 64) ∷ empty (ringAt 3 64) ∷ empty (ringAt 4 64) ∷ [];
-  threads = idleThreads;
+  queues = empty (ring_at 0 64) ∷ empty (ring_at 1 64) ∷ empty (ring_at 2 64) ∷ empty (ring_at 3 64) ∷ empty (ring_at 4 64) ∷ [];
+  threads = idle_threads;
   queue_count = 5;
   place_count = 5;
   next_ring = record { 0 = 5 };
@@ -78,33 +78,33 @@ five = record {
 
 -- two queues, three places; the first or the last queue has a ring of this capacity
 abbrev first : ℕ → Machine
-first capacity = withQueue (fresh 2 3) 0 (empty (ringAt 0 capacity))
+first capacity = with_queue (fresh 2 3) 0 (empty (ring_at 0 capacity))
 
 abbrev last : ℕ → Machine
-last capacity = withQueue (fresh 2 3) 1 (empty (ringAt 1 capacity))
+last capacity = with_queue (fresh 2 3) 1 (empty (ring_at 1 capacity))
 
 -- the last has this front and this back, in a ring of a capacity
 abbrev differing : ℕ → ℤ → ℤ → Machine
-differing capacity f b = withQueue (fresh 2 3) 1 (spanning f b (ringAt 1 capacity))
+differing capacity f b = with_queue (fresh 2 3) 1 (spanning f b (ring_at 1 capacity))
 
 -- four queues, six places, and queue k's ring is in place p
 abbrev lying : ℕ → ℕ → Machine
-lying k p = withQueue (fresh 4 6) k (empty (ringAt p 64))
+lying k p = with_queue (fresh 4 6) k (empty (ring_at p 64))
 
 -- thread s builds a ring in place p
 abbrev builds : ℕ → Machine → ℕ → Machine
-builds s m p = withStage m s (G.Push 7 (Resize zeroIndex (Swap (ringAt p 64))))
+builds s m p = with_stage m s (G.Push 7 (Resize zero_index (Swap (ring_at p 64))))
 
 -- or holds one
 abbrev holds : ℕ → Machine → ℕ → Machine
-holds s m p = withStage m s (G.Steal 0 (Read zeroIndex (ringAt p 64)))
+holds s m p = with_stage m s (G.Steal 0 (Read zero_index (ring_at p 64)))
 
 -- ---- counts and queues
 
 abbrev pub counts : List Row
 counts =
     -- counts in range: queues 1 to 4
-    unsound zeroMachine ∷
+    unsound zero_machine ∷
     unsound (fresh 0 1) ∷
     sound (fresh 1 1) ∷
     sound (fresh 4 4) ∷
@@ -153,8 +153,8 @@ places =
     sound (lying 2 4) ∷
     []
 
-abbrev pub builtRings : List Row
-builtRings =
+abbrev pub built_rings : List Row
+built_rings =
     -- a built ring, against the own queue's and against another's
     unsound (builds 0 (fresh 4 6) 0) ∷
     unsound (builds 3 (fresh 4 6) 3) ∷
@@ -198,48 +198,48 @@ differences =
 abbrev pub above : List Row
 above =
     -- queues and threads above the count are not looked at
-    sound (withQueue (fresh 2 3) 2 (empty (ringAt 0 65))) ∷
-    sound (withQueue (fresh 2 3) 3 (spanning (pos 9) (pos 0) (ringAt 9 0))) ∷
+    sound (with_queue (fresh 2 3) 2 (empty (ring_at 0 65))) ∷
+    sound (with_queue (fresh 2 3) 3 (spanning (pos 9) (pos 0) (ring_at 9 0))) ∷
     sound (builds 2 (fresh 2 3) 0) ∷
     sound (builds 2 (builds 0 (fresh 2 3) 2) 2) ∷
     sound (holds 3 (fresh 2 3) 3) ∷
-    sound (withStage (fresh 2 3) 2 (G.Length 7 LoadBack)) ∷
+    sound (with_stage (fresh 2 3) 2 (G.Length 7 LoadBack)) ∷
     []
 
-pub counts-judged : Judged counts
-unfolding step_of gateOf soundB all_below allowedB ones ones_in spansB differenceOf wrap
-counts-judged = refl
+pub counts_judged : Judged counts
+unfolding step_of gate_of sound_b all_below allowed_b ones ones_in spans_b difference_of wrap
+counts_judged = refl
 
-pub capacities-judged : Judged capacities
-unfolding step_of gateOf soundB all_below allowedB ones ones_in spansB differenceOf wrap
-capacities-judged = refl
+pub capacities_judged : Judged capacities
+unfolding step_of gate_of sound_b all_below allowed_b ones ones_in spans_b difference_of wrap
+capacities_judged = refl
 
-pub places-judged : Judged places
-unfolding step_of gateOf soundB all_below allowedB ones ones_in spansB differenceOf wrap
-places-judged = refl
+pub places_judged : Judged places
+unfolding step_of gate_of sound_b all_below allowed_b ones ones_in spans_b difference_of wrap
+places_judged = refl
 
-pub built-judged : Judged builtRings
-unfolding step_of gateOf soundB all_below allowedB ones ones_in spansB differenceOf wrap
-built-judged = refl
+pub built_judged : Judged built_rings
+unfolding step_of gate_of sound_b all_below allowed_b ones ones_in spans_b difference_of wrap
+built_judged = refl
 
-pub differences-judged : Judged differences
-unfolding step_of gateOf soundB all_below allowedB ones ones_in spansB differenceOf wrap
-differences-judged = refl
+pub differences_judged : Judged differences
+unfolding step_of gate_of sound_b all_below allowed_b ones ones_in spans_b difference_of wrap
+differences_judged = refl
 
-pub above-judged : Judged above
-unfolding step_of gateOf soundB all_below allowedB ones ones_in spansB differenceOf wrap
-above-judged = refl
+pub above_judged : Judged above
+unfolding step_of gate_of sound_b all_below allowed_b ones ones_in spans_b difference_of wrap
+above_judged = refl
 
 -- a begin is judged as a step is
-pub begins-judged : map begun (counts ++ (capacities ++ (places ++ (builtRings ++ (differences ++ (above)))))) ≡ map asItWas (counts ++ (capacities ++ (places ++ (builtRings ++ (differences ++ (above))))))
-unfolding beginOf gateOf soundB all_below allowedB ones ones_in spansB differenceOf wrap
-begins-judged = refl
+pub begins_judged : map begun (counts ++ (capacities ++ (places ++ (built_rings ++ (differences ++ (above)))))) ≡ map as_it_was (counts ++ (capacities ++ (places ++ (built_rings ++ (differences ++ (above))))))
+unfolding begin_of gate_of sound_b all_below allowed_b ones ones_in spans_b difference_of wrap
+begins_judged = refl
 
 -- ---- what a thread remembers, in two queues and three places: place 2 is free
 
 -- by the first of the threads, and by the last
 abbrev remembered : (Machine → Row) → List Stage → List Row
-remembered row l = map (λ (s : Stage). row (withStage (fresh 2 3) 0 s)) l ++ map (λ (s : Stage). row (withStage (fresh 2 3) 1 s)) l
+remembered row l = map (λ (s : Stage). row (with_stage (fresh 2 3) 0 s)) l ++ map (λ (s : Stage). row (with_stage (fresh 2 3) 1 s)) l
 
 abbrev every : (Machine → Row) → List (List Stage) → List Row
 every row [] = []
@@ -250,47 +250,47 @@ abbrev memories : List (List Stage) → List (List Stage) → List Row
 memories ls ls' = every sound ls ++ every unsound ls'
 
 -- nothing that soundness asks about
-pub plain-judged : Judged (remembered sound plain)
-unfolding step_of gateOf soundB all_below allowedB ones ones_in spansB differenceOf wrap
-plain-judged = refl
+pub plain_judged : Judged (remembered sound plain)
+unfolding step_of gate_of sound_b all_below allowed_b ones ones_in spans_b difference_of wrap
+plain_judged = refl
 
 -- a ring that is built: an allowed capacity, a place below the count, and no current ring's
-pub building-judged : Judged
-    (memories (building (ringAt 2 64) ∷ building (ringAt 2 256) ∷ [])
-    (building (ringAt 2 32) ∷
-    building (ringAt 2 96) ∷
-    building (ringAt 2 512) ∷
-    building (ringAt 3 64) ∷
-    building (ringAt 0 64) ∷
-    building (ringAt 1 64) ∷
+pub building_judged : Judged
+    (memories (building (ring_at 2 64) ∷ building (ring_at 2 256) ∷ [])
+    (building (ring_at 2 32) ∷
+    building (ring_at 2 96) ∷
+    building (ring_at 2 512) ∷
+    building (ring_at 3 64) ∷
+    building (ring_at 0 64) ∷
+    building (ring_at 1 64) ∷
     []))
-unfolding step_of gateOf soundB all_below allowedB ones ones_in spansB differenceOf wrap
-building-judged = refl
+unfolding step_of gate_of sound_b all_below allowed_b ones ones_in spans_b difference_of wrap
+building_judged = refl
 
 -- a ring that is held: the same, but it may be in a current ring's place
-pub holding-judged : Judged
-    (memories (holding (ringAt 2 256) ∷ holding (ringAt 0 64) ∷ holding (ringAt 1 64) ∷ [])
-    (holding (ringAt 2 32) ∷ holding (ringAt 2 96) ∷ holding (ringAt 2 512) ∷ holding (ringAt 3 64) ∷ []))
-unfolding step_of gateOf soundB all_below allowedB ones ones_in spansB differenceOf wrap
-holding-judged = refl
+pub holding_judged : Judged
+    (memories (holding (ring_at 2 256) ∷ holding (ring_at 0 64) ∷ holding (ring_at 1 64) ∷ [])
+    (holding (ring_at 2 32) ∷ holding (ring_at 2 96) ∷ holding (ring_at 2 512) ∷ holding (ring_at 3 64) ∷ []))
+unfolding step_of gate_of sound_b all_below allowed_b ones ones_in spans_b difference_of wrap
+holding_judged = refl
 
 -- a capacity it resizes to is allowed
-pub resizing-judged : Judged (memories (resizing 64 ∷ resizing 256 ∷ []) (resizing 0 ∷ resizing 32 ∷ resizing 96 ∷ resizing 512 ∷ []))
-unfolding step_of gateOf soundB all_below allowedB ones ones_in spansB differenceOf wrap
-resizing-judged = refl
+pub resizing_judged : Judged (memories (resizing 64 ∷ resizing 256 ∷ []) (resizing 0 ∷ resizing 32 ∷ resizing 96 ∷ resizing 512 ∷ []))
+unfolding step_of gate_of sound_b all_below allowed_b ones ones_in spans_b difference_of wrap
+resizing_judged = refl
 
 -- the source queue it remembers exists
-pub naming-judged : Judged (memories (naming 1 ∷ []) (naming 2 ∷ []))
-unfolding step_of gateOf soundB all_below allowedB ones ones_in spansB differenceOf wrap
-naming-judged = refl
+pub naming_judged : Judged (memories (naming 1 ∷ []) (naming 2 ∷ []))
+unfolding step_of gate_of sound_b all_below allowed_b ones ones_in spans_b difference_of wrap
+naming_judged = refl
 
 -- once reserve is past, a batch's n is at most the largest capacity
-pub wanting-judged : Judged (memories (before 257 ∷ before (2 ^ 64 - 1) ∷ past 0 ∷ past 256 ∷ []) (past 257 ∷ []))
-unfolding step_of gateOf soundB all_below allowedB ones ones_in spansB differenceOf wrap
-wanting-judged = refl
+pub wanting_judged : Judged (memories (before 257 ∷ before (2 ^ 64 - 1) ∷ past 0 ∷ past 256 ∷ []) (past 257 ∷ []))
+unfolding step_of gate_of sound_b all_below allowed_b ones ones_in spans_b difference_of wrap
+wanting_judged = refl
 
 -- and its counters at most n
-pub counting-judged : Judged
+pub counting_judged : Judged
     (memories (counting 3 3 ∷ counting 256 256 ∷ counting 0 0 ∷ []) (counting 3 4 ∷ counting 256 257 ∷ counting 0 1 ∷ []))
-unfolding step_of gateOf soundB all_below allowedB ones ones_in spansB differenceOf wrap
-counting-judged = refl
+unfolding step_of gate_of sound_b all_below allowed_b ones ones_in spans_b difference_of wrap
+counting_judged = refl

@@ -3,36 +3,36 @@
 use Rattle.std.specs.Prelude.{ℕ, List, [], ◌∷◌, ◌++◌, map, negsuc}
 use Rattle.index.specs.declared.Index.{Index}
 use Rattle.ring.specs.declared.Ring.{Ring}
-use Rattle.std.specs.declared.stage.ResizeStage.{ResizeStage}
-use Rattle.std.specs.declared.stage.ResizeStage.TheVariants as Z
-use Rattle.std.specs.declared.stage.PushStage.TheVariants as U
-use Rattle.std.specs.declared.stage.FifoPopStage.TheVariants as D
-use Rattle.std.specs.declared.stage.LifoPopStage.TheVariants as L
-use Rattle.std.specs.declared.stage.PopStage.TheVariants as P
-use Rattle.std.specs.declared.stage.Popper.TheVariants as M
-use Rattle.std.specs.declared.stage.StealStage.TheVariants as T
-use Rattle.std.specs.declared.stage.LengthStage.TheVariants as N
-use Rattle.std.specs.declared.stage.BatchKind.TheVariants as K
-use Rattle.std.specs.declared.stage.InHand.TheVariants as H
-use Rattle.std.specs.declared.stage.Wanted.{Wanted}
-use Rattle.std.specs.declared.stage.Haul.{Haul}
-use Rattle.std.specs.declared.stage.AllStage.TheVariants as A
-use Rattle.std.specs.declared.stage.OneStage.TheVariants as E
-use Rattle.std.specs.declared.stage.TakeStage.{TakeStage}
-use Rattle.std.specs.declared.stage.TakeStage.TheVariants as X
-use Rattle.std.specs.declared.stage.SwapStage.TheVariants as Q
-use Rattle.std.specs.declared.stage.PutStage.{PutStage}
-use Rattle.std.specs.declared.stage.PutStage.TheVariants as W
-use Rattle.std.specs.declared.stage.ReserveStage.{ReserveStage}
-use Rattle.std.specs.declared.stage.ReserveStage.TheVariants as Y
-use Rattle.std.specs.declared.stage.SourceStage.TheVariants as S
-use Rattle.std.specs.declared.stage.OwnStage.TheVariants as O
-use Rattle.std.specs.declared.stage.Stage.{Stage}
-use Rattle.std.specs.declared.stage.Stage.TheVariants.{Idle, Push, Pop, Steal, Length, OwnBatch, BatchSource, BatchOwn}
+use Rattle.parts.specs.declared.stage.ResizeStage.{ResizeStage}
+use Rattle.parts.specs.declared.stage.ResizeStage.TheVariants as Z
+use Rattle.parts.specs.declared.stage.PushStage.TheVariants as U
+use Rattle.parts.specs.declared.stage.FifoPopStage.TheVariants as D
+use Rattle.parts.specs.declared.stage.LifoPopStage.TheVariants as L
+use Rattle.parts.specs.declared.stage.PopStage.TheVariants as P
+use Rattle.parts.specs.declared.stage.Popper.TheVariants as M
+use Rattle.parts.specs.declared.stage.StealStage.TheVariants as T
+use Rattle.parts.specs.declared.stage.LengthStage.TheVariants as N
+use Rattle.parts.specs.declared.stage.BatchKind.TheVariants as K
+use Rattle.parts.specs.declared.stage.InHand.TheVariants as H
+use Rattle.parts.specs.declared.stage.Wanted.{Wanted}
+use Rattle.parts.specs.declared.stage.Haul.{Haul}
+use Rattle.parts.specs.declared.stage.AllStage.TheVariants as A
+use Rattle.parts.specs.declared.stage.OneStage.TheVariants as E
+use Rattle.parts.specs.declared.stage.TakeStage.{TakeStage}
+use Rattle.parts.specs.declared.stage.TakeStage.TheVariants as X
+use Rattle.parts.specs.declared.stage.SwapStage.TheVariants as Q
+use Rattle.parts.specs.declared.stage.PutStage.{PutStage}
+use Rattle.parts.specs.declared.stage.PutStage.TheVariants as W
+use Rattle.parts.specs.declared.stage.ReserveStage.{ReserveStage}
+use Rattle.parts.specs.declared.stage.ReserveStage.TheVariants as Y
+use Rattle.parts.specs.declared.stage.SourceStage.TheVariants as S
+use Rattle.parts.specs.declared.stage.OwnStage.TheVariants as O
+use Rattle.parts.specs.declared.stage.Stage.{Stage}
+use Rattle.parts.specs.declared.stage.Stage.TheVariants.{Idle, Push, Pop, Steal, Length, OwnBatch, BatchSource, BatchOwn}
 
 -- ring 9, in a place, with a capacity
-abbrev pub ringAt : ℕ → ℕ → Ring
-ringAt place capacity = record { number = record { 0 = 9 }; place = record { 0 = place }; capacity = capacity }
+abbrev pub ring_at : ℕ → ℕ → Ring
+ring_at place capacity = record { number = record { 0 = 9 }; place = record { 0 = place }; capacity = capacity }
 
 -- an index that no queue here has: soundness asks nothing of one that is remembered
 abbrev far : Index
@@ -46,18 +46,18 @@ haul ring n = record { ring = ring; f = far; n = n; b = far; in_hand = H.Nothing
 
 -- a haul of three jobs from a ring in the free place
 abbrev three : Haul
-three = haul (ringAt 2 64) 3
+three = haul (ring_at 2 64) 3
 
 -- ---- parts of a batch
 
 -- with i jobs copied, or written
-abbrev takesWith : ℕ → List TakeStage
-takesWith i =
+abbrev takes_with : ℕ → List TakeStage
+takes_with i =
     X.All (A.Copy i) ∷ X.One (E.ReloadBack i) ∷ X.One (E.Read i) ∷ X.One (E.ReloadRing i 7) ∷ X.One (E.Exchange i 7) ∷ []
 
 -- with i jobs copied or written, or i swaps made
-abbrev putsWith : ℕ → List PutStage
-putsWith i =
+abbrev puts_with : ℕ → List PutStage
+puts_with i =
     W.WriteCopy i 7 ∷
     W.WriteOne i 7 ∷
     W.Swap i Q.ReadNear ∷
@@ -67,10 +67,10 @@ putsWith i =
     []
 
 abbrev takes : List TakeStage
-takes = X.ReadFirst ∷ X.All A.ReloadRing ∷ X.All A.Exchange ∷ X.One (E.ExchangeFirst 7) ∷ takesWith 0
+takes = X.ReadFirst ∷ X.All A.ReloadRing ∷ X.All A.Exchange ∷ X.One (E.ExchangeFirst 7) ∷ takes_with 0
 
 abbrev puts : List PutStage
-puts = W.StoreBack ∷ putsWith 0
+puts = W.StoreBack ∷ puts_with 0
 
 -- with a haul from queue k
 abbrev taking : ℕ → Haul → List TakeStage → List Stage
@@ -112,16 +112,16 @@ naming k =
     Steal k T.LoadFront ∷
     Steal k (T.LoadBack far) ∷
     Steal k (T.LoadRing far) ∷
-    Steal k (T.Read far (ringAt 2 64)) ∷
-    Steal k (T.ReloadRing far (ringAt 2 64) 7) ∷
-    Steal k (T.Exchange far (ringAt 2 64) 7) ∷
+    Steal k (T.Read far (ring_at 2 64)) ∷
+    Steal k (T.ReloadRing far (ring_at 2 64) 7) ∷
+    Steal k (T.Exchange far (ring_at 2 64) 7) ∷
     Length k N.LoadBack ∷
     Length k (N.LoadFront far) ∷
     BatchSource k (S.LoadFront K.Batch 0) ∷
     BatchSource k (S.LoadBack K.Batch 0 far) ∷
     BatchSource k (S.LoadRing (wanted 3) far) ∷
     BatchOwn k (O.LoadBack (wanted 3)) ∷
-    (reserving k 3 (Y.LoadBack ∷ Y.LoadFront far ∷ Y.Resize (Z.LoadBack 64) ∷ Y.Resize (Z.Swap (ringAt 2 64)) ∷ []) ++
+    (reserving k 3 (Y.LoadBack ∷ Y.LoadFront far ∷ Y.Resize (Z.LoadBack 64) ∷ Y.Resize (Z.Swap (ring_at 2 64)) ∷ []) ++
     (taking k three takes ++ putting k three puts))
 
 -- n before reserve is past, also inside its resize; and the limit less one
@@ -134,8 +134,8 @@ before n =
     Y.LoadFront far ∷
     Y.Resize (Z.LoadBack 64) ∷
     Y.Resize (Z.LoadFront 64 far) ∷
-    Y.Resize (Z.Copy far far (ringAt 2 64)) ∷
-    Y.Resize (Z.Swap (ringAt 2 64)) ∷
+    Y.Resize (Z.Copy far far (ring_at 2 64)) ∷
+    Y.Resize (Z.Swap (ring_at 2 64)) ∷
     [])
 
 -- n from the load of the own back on
@@ -143,11 +143,11 @@ abbrev pub past : ℕ → List Stage
 past n =
     BatchOwn 0 (O.LoadBack (wanted n)) ∷
     BatchSource 0 (S.LoadRing (wanted n) far) ∷
-    (taking 0 (haul (ringAt 2 64) n) takes ++ putting 0 (haul (ringAt 2 64) n) puts)
+    (taking 0 (haul (ring_at 2 64) n) takes ++ putting 0 (haul (ring_at 2 64) n) puts)
 
 -- a counter i, of n
 abbrev pub counting : ℕ → ℕ → List Stage
-counting n i = taking 0 (haul (ringAt 2 64) n) (takesWith i) ++ putting 0 (haul (ringAt 2 64) n) (putsWith i)
+counting n i = taking 0 (haul (ring_at 2 64) n) (takes_with i) ++ putting 0 (haul (ring_at 2 64) n) (puts_with i)
 
 -- nothing that soundness asks about
 abbrev pub plain : List Stage

@@ -5,7 +5,7 @@ use Rattle.steal.specs.declared.Steal.{Steal}
 use Rattle.steal.specs.declared.Steal.TheVariants.{Empty, Success, Retry}
 use Rattle.steal.specs.declared.Success.{Success as Found}
 use Rattle.steal.specs.declared.Success.TheVariants.{Job, Nothing}
-use Rattle.steal.specs.Steal.{number_of, value_of, isEmptyB, isSuccessB, isRetryB, successOf, or_else, collected, ofNumber, answers}
+use Rattle.steal.specs.Steal.{number_of, value_of, is_empty_b, is_success_b, is_retry_b, success_of, or_else, collected, of_number, answers}
 
 -- ---- two answers, and what `or_else` gives
 
@@ -36,8 +36,8 @@ choices =
     two Retry Retry Retry ∷
     []
 
-pub all-choices : map chosen choices ≡ choices
-all-choices = refl
+pub all_choices : map chosen choices ≡ choices
+all_choices = refl
 
 -- ---- an answer: is it Empty, Success, Retry; its job, if any; its number and its value
 
@@ -55,7 +55,7 @@ one s e u r f n v = record { answer = s; empty = e; success = u; retry = r; foun
 
 abbrev told : One → One
 told o =
-    let s : Steal = o.answer in one s (isEmptyB s) (isSuccessB s) (isRetryB s) (successOf s) (number_of s) (value_of s)
+    let s : Steal = o.answer in one s (is_empty_b s) (is_success_b s) (is_retry_b s) (success_of s) (number_of s) (value_of s)
 
 abbrev pub kinds : List One
 kinds =
@@ -102,6 +102,6 @@ lists =
     many (4 ∷ []) (7 ∷ 8 ∷ []) (Empty ∷ []) Empty ∷
     []
 
-pub all-lists : map gathered lists ≡ lists
-unfolding collected ofNumber answers
-all-lists = refl
+pub all_lists : map gathered lists ≡ lists
+unfolding collected of_number answers
+all_lists = refl

@@ -1,39 +1,39 @@
 -- A step within another keeps its number, and by it the outer step is read back. Words tell what they were made from where their parts do.
 use Rattle.std.proofs.Common.{◌≡◌, ℕ, sym, refl, ap, ◌∙◌}
 use Rattle.index.specs.declared.Index.{Index}
-use Rattle.std.specs.declared.stage.ResizeStage.{ResizeStage}
-use Rattle.std.specs.declared.stage.ResizeStage.TheVariants as Z
-use Rattle.std.specs.declared.stage.PushStage.TheVariants as U
-use Rattle.std.specs.declared.stage.FifoPopStage.{FifoPopStage}
-use Rattle.std.specs.declared.stage.FifoPopStage.TheVariants as D
-use Rattle.std.specs.declared.stage.LifoPopStage.{LifoPopStage}
-use Rattle.std.specs.declared.stage.LifoPopStage.TheVariants as L
-use Rattle.std.specs.declared.stage.PopStage.TheVariants as P
-use Rattle.std.specs.declared.stage.InHand.{InHand}
-use Rattle.std.specs.declared.stage.InHand.TheVariants as H
-use Rattle.std.specs.declared.stage.Wanted.{Wanted}
-use Rattle.std.specs.declared.stage.Haul.{Haul}
-use Rattle.std.specs.declared.stage.AllStage.{AllStage}
-use Rattle.std.specs.declared.stage.AllStage.TheVariants as M
-use Rattle.std.specs.declared.stage.OneStage.{OneStage}
-use Rattle.std.specs.declared.stage.OneStage.TheVariants as E
-use Rattle.std.specs.declared.stage.TakeStage.{TakeStage}
-use Rattle.std.specs.declared.stage.TakeStage.TheVariants as T
-use Rattle.std.specs.declared.stage.SourceStage.TheVariants as S
-use Rattle.std.specs.declared.stage.ReserveStage.{ReserveStage}
-use Rattle.std.specs.declared.stage.ReserveStage.TheVariants as Y
-use Rattle.std.specs.declared.stage.SwapStage.{SwapStage}
-use Rattle.std.specs.declared.stage.SwapStage.TheVariants as X
-use Rattle.std.specs.declared.stage.PutStage.{PutStage}
-use Rattle.std.specs.declared.stage.PutStage.TheVariants as W
-use Rattle.std.specs.declared.stage.OwnStage.TheVariants as O
-use Rattle.slots.specs.Slots.{indexWord, index_of, bare, with_b, withCount, withJob}
-use Rattle.words.specs.Resize.{resizeWords, resizeOf}
-use Rattle.words.specs.Push.{pushOf}
-use Rattle.words.specs.Pop.{fifoWords, fifoOf, lifoWords, lifoOf, pop_of}
-use Rattle.words.specs.Batch.{handWord, heldWord, handOf, withWanted, wantedOf, withHaul, haulOf}
-use Rattle.words.specs.BatchSource.{allWords, all_of, oneWords, one_of, takeWords, take_of, source_of}
-use Rattle.words.specs.BatchOwn.{reserveWords, reserveOf, swapWords, swapOf, putWords, put_of, own_of}
+use Rattle.parts.specs.declared.stage.ResizeStage.{ResizeStage}
+use Rattle.parts.specs.declared.stage.ResizeStage.TheVariants as Z
+use Rattle.parts.specs.declared.stage.PushStage.TheVariants as U
+use Rattle.parts.specs.declared.stage.FifoPopStage.{FifoPopStage}
+use Rattle.parts.specs.declared.stage.FifoPopStage.TheVariants as D
+use Rattle.parts.specs.declared.stage.LifoPopStage.{LifoPopStage}
+use Rattle.parts.specs.declared.stage.LifoPopStage.TheVariants as L
+use Rattle.parts.specs.declared.stage.PopStage.TheVariants as P
+use Rattle.parts.specs.declared.stage.InHand.{InHand}
+use Rattle.parts.specs.declared.stage.InHand.TheVariants as H
+use Rattle.parts.specs.declared.stage.Wanted.{Wanted}
+use Rattle.parts.specs.declared.stage.Haul.{Haul}
+use Rattle.parts.specs.declared.stage.AllStage.{AllStage}
+use Rattle.parts.specs.declared.stage.AllStage.TheVariants as M
+use Rattle.parts.specs.declared.stage.OneStage.{OneStage}
+use Rattle.parts.specs.declared.stage.OneStage.TheVariants as E
+use Rattle.parts.specs.declared.stage.TakeStage.{TakeStage}
+use Rattle.parts.specs.declared.stage.TakeStage.TheVariants as T
+use Rattle.parts.specs.declared.stage.SourceStage.TheVariants as S
+use Rattle.parts.specs.declared.stage.ReserveStage.{ReserveStage}
+use Rattle.parts.specs.declared.stage.ReserveStage.TheVariants as Y
+use Rattle.parts.specs.declared.stage.SwapStage.{SwapStage}
+use Rattle.parts.specs.declared.stage.SwapStage.TheVariants as X
+use Rattle.parts.specs.declared.stage.PutStage.{PutStage}
+use Rattle.parts.specs.declared.stage.PutStage.TheVariants as W
+use Rattle.parts.specs.declared.stage.OwnStage.TheVariants as O
+use Rattle.slots.specs.Slots.{index_word, index_of, bare, with_b, with_count, with_job}
+use Rattle.words.specs.Resize.{resize_words, resize_of}
+use Rattle.words.specs.Push.{push_of}
+use Rattle.words.specs.Pop.{fifo_words, fifo_of, lifo_words, lifo_of, pop_of}
+use Rattle.words.specs.Batch.{hand_word, held_word, hand_of, with_wanted, wanted_of, with_haul, haul_of}
+use Rattle.words.specs.BatchSource.{all_words, all_of, one_words, one_of, take_words, take_of, source_of}
+use Rattle.words.specs.BatchOwn.{reserve_words, reserve_of, swap_words, swap_of, put_words, put_of, own_of}
 
 -- what a call ensures of the words that it gave holds of the words by definition
 pub tells : {A B : Type 0} (of : A → B) {v w : A} {x : B} → (v ≡ w) × (of v ≡ x) → of w ≡ x
@@ -41,11 +41,11 @@ tells of h = sym (ap of h.0) ∙ h.1
 
 -- ---- a push
 
-pub push-resize :
-    (b : Index) (z : ResizeStage) → index_of (indexWord b) ≡ b → resizeOf (resizeWords z) ≡ z → pushOf (with_b b (resizeWords z)) ≡ U.Resize b z
-push-resize b z p q = go z ∙ (λ i. U.Resize (p i) (q i))
+pub push_resize :
+    (b : Index) (z : ResizeStage) → index_of (index_word b) ≡ b → resize_of (resize_words z) ≡ z → push_of (with_b b (resize_words z)) ≡ U.Resize b z
+push_resize b z p q = go z ∙ (λ i. U.Resize (p i) (q i))
   where
-    go : (z : ResizeStage) → pushOf (with_b b (resizeWords z)) ≡ U.Resize (index_of (indexWord b)) (resizeOf (resizeWords z))
+    go : (z : ResizeStage) → push_of (with_b b (resize_words z)) ≡ U.Resize (index_of (index_word b)) (resize_of (resize_words z))
     go (Z.LoadBack c) = refl
     go (Z.LoadFront c e) = refl
     go (Z.Copy e i ring) = refl
@@ -53,20 +53,20 @@ push-resize b z p q = go z ∙ (λ i. U.Resize (p i) (q i))
 
 -- ---- a pop
 
-pub pop-fifo : (s : FifoPopStage) → fifoOf (fifoWords s) ≡ s → pop_of (fifoWords s) ≡ P.Fifo s
-pop-fifo s p = go s ∙ ap P.Fifo p
+pub pop_fifo : (s : FifoPopStage) → fifo_of (fifo_words s) ≡ s → pop_of (fifo_words s) ≡ P.Fifo s
+pop_fifo s p = go s ∙ ap P.Fifo p
   where
-    go : (s : FifoPopStage) → pop_of (fifoWords s) ≡ P.Fifo (fifoOf (fifoWords s))
+    go : (s : FifoPopStage) → pop_of (fifo_words s) ≡ P.Fifo (fifo_of (fifo_words s))
     go D.LoadBack = refl
     go (D.LoadFront b) = refl
     go (D.FetchAdd b others) = refl
     go (D.RestoreFront f) = refl
     go (D.Read f others) = refl
 
-pub pop-lifo : (s : LifoPopStage) → lifoOf (lifoWords s) ≡ s → pop_of (lifoWords s) ≡ P.Lifo s
-pop-lifo s p = go s ∙ ap P.Lifo p
+pub pop_lifo : (s : LifoPopStage) → lifo_of (lifo_words s) ≡ s → pop_of (lifo_words s) ≡ P.Lifo s
+pop_lifo s p = go s ∙ ap P.Lifo p
   where
-    go : (s : LifoPopStage) → pop_of (lifoWords s) ≡ P.Lifo (lifoOf (lifoWords s))
+    go : (s : LifoPopStage) → pop_of (lifo_words s) ≡ P.Lifo (lifo_of (lifo_words s))
     go L.LoadBack = refl
     go (L.LoadFront b) = refl
     go (L.StoreBack b) = refl
@@ -77,10 +77,10 @@ pop-lifo s p = go s ∙ ap P.Lifo p
     go (L.RestoreBackWon b job) = refl
     go (L.Read b others) = refl
 
-pub pop-shrink : (job : ℕ) (z : ResizeStage) → resizeOf (resizeWords z) ≡ z → pop_of (withJob job (resizeWords z)) ≡ P.Shrink job z
-pop-shrink job z p = go z ∙ ap (P.Shrink job) p
+pub pop_shrink : (job : ℕ) (z : ResizeStage) → resize_of (resize_words z) ≡ z → pop_of (with_job job (resize_words z)) ≡ P.Shrink job z
+pop_shrink job z p = go z ∙ ap (P.Shrink job) p
   where
-    go : (z : ResizeStage) → pop_of (withJob job (resizeWords z)) ≡ P.Shrink job (resizeOf (resizeWords z))
+    go : (z : ResizeStage) → pop_of (with_job job (resize_words z)) ≡ P.Shrink job (resize_of (resize_words z))
     go (Z.LoadBack c) = refl
     go (Z.LoadFront c e) = refl
     go (Z.Copy e i ring) = refl
@@ -88,22 +88,22 @@ pop-shrink job z p = go z ∙ ap (P.Shrink job) p
 
 -- ---- a batch on its source
 
-pub hand-told : (h : InHand) → handOf (handWord h) (heldWord h) ≡ h
-hand-told H.Nothing = refl
-hand-told (H.Job job) = refl
+pub hand_told : (h : InHand) → hand_of (hand_word h) (held_word h) ≡ h
+hand_told H.Nothing = refl
+hand_told (H.Job job) = refl
 
-pub take_all : (s : AllStage) → all_of (allWords s) ≡ s → take_of (allWords s) ≡ T.All s
+pub take_all : (s : AllStage) → all_of (all_words s) ≡ s → take_of (all_words s) ≡ T.All s
 take_all s p = go s ∙ ap T.All p
   where
-    go : (s : AllStage) → take_of (allWords s) ≡ T.All (all_of (allWords s))
+    go : (s : AllStage) → take_of (all_words s) ≡ T.All (all_of (all_words s))
     go (M.Copy i) = refl
     go M.ReloadRing = refl
     go M.Exchange = refl
 
-pub take-one : (s : OneStage) → one_of (oneWords s) ≡ s → take_of (oneWords s) ≡ T.One s
-take-one s p = go s ∙ ap T.One p
+pub take_one : (s : OneStage) → one_of (one_words s) ≡ s → take_of (one_words s) ≡ T.One s
+take_one s p = go s ∙ ap T.One p
   where
-    go : (s : OneStage) → take_of (oneWords s) ≡ T.One (one_of (oneWords s))
+    go : (s : OneStage) → take_of (one_words s) ≡ T.One (one_of (one_words s))
     go (E.ExchangeFirst job) = refl
     go (E.ReloadBack i) = refl
     go (E.Read i) = refl
@@ -112,15 +112,15 @@ take-one s p = go s ∙ ap T.One p
 
 pub source-load-ring :
     (h : Wanted) (b : Index) →
-    wantedOf (withWanted h (bare 2)) ≡ h → index_of (indexWord b) ≡ b → source_of (with_b b (withWanted h (bare 2))) ≡ S.LoadRing h b
+    wanted_of (with_wanted h (bare 2)) ≡ h → index_of (index_word b) ≡ b → source_of (with_b b (with_wanted h (bare 2))) ≡ S.LoadRing h b
 source-load-ring h b p q = λ i. S.LoadRing (p i) (q i)
 
 pub source-take :
     (h : Haul) (s : TakeStage) →
-    haulOf (withHaul h (takeWords s)) ≡ h → take_of (takeWords s) ≡ s → source_of (withHaul h (takeWords s)) ≡ S.Take h s
+    haul_of (with_haul h (take_words s)) ≡ h → take_of (take_words s) ≡ s → source_of (with_haul h (take_words s)) ≡ S.Take h s
 source-take h s p q = go s ∙ (λ i. S.Take (p i) (q i))
   where
-    go : (s : TakeStage) → source_of (withHaul h (takeWords s)) ≡ S.Take (haulOf (withHaul h (takeWords s))) (take_of (takeWords s))
+    go : (s : TakeStage) → source_of (with_haul h (take_words s)) ≡ S.Take (haul_of (with_haul h (take_words s))) (take_of (take_words s))
     go T.ReadFirst = refl
     go (T.All (M.Copy i)) = refl
     go (T.All M.ReloadRing) = refl
@@ -133,19 +133,19 @@ source-take h s p q = go s ∙ (λ i. S.Take (p i) (q i))
 
 -- ---- a batch on the own queue
 
-pub reserve-resize : (z : ResizeStage) → resizeOf (resizeWords z) ≡ z → reserveOf (resizeWords z) ≡ Y.Resize z
-reserve-resize z p = go z ∙ ap Y.Resize p
+pub reserve_resize : (z : ResizeStage) → resize_of (resize_words z) ≡ z → reserve_of (resize_words z) ≡ Y.Resize z
+reserve_resize z p = go z ∙ ap Y.Resize p
   where
-    go : (z : ResizeStage) → reserveOf (resizeWords z) ≡ Y.Resize (resizeOf (resizeWords z))
+    go : (z : ResizeStage) → reserve_of (resize_words z) ≡ Y.Resize (resize_of (resize_words z))
     go (Z.LoadBack c) = refl
     go (Z.LoadFront c e) = refl
     go (Z.Copy e i ring) = refl
     go (Z.Swap ring) = refl
 
-pub put-swap : (x : ℕ) (s : SwapStage) → swapOf (swapWords s) ≡ s → put_of (withCount x (swapWords s)) ≡ W.Swap x s
-put-swap x s p = go s ∙ ap (W.Swap x) p
+pub put_swap : (x : ℕ) (s : SwapStage) → swap_of (swap_words s) ≡ s → put_of (with_count x (swap_words s)) ≡ W.Swap x s
+put_swap x s p = go s ∙ ap (W.Swap x) p
   where
-    go : (s : SwapStage) → put_of (withCount x (swapWords s)) ≡ W.Swap x (swapOf (swapWords s))
+    go : (s : SwapStage) → put_of (with_count x (swap_words s)) ≡ W.Swap x (swap_of (swap_words s))
     go X.ReadNear = refl
     go (X.ReadFar near) = refl
     go (X.WriteNear near far) = refl
@@ -153,10 +153,10 @@ put-swap x s p = go s ∙ ap (W.Swap x) p
 
 pub own-reserve :
     (h : Wanted) (s : ReserveStage) →
-    wantedOf (withWanted h (reserveWords s)) ≡ h → reserveOf (reserveWords s) ≡ s → own_of (withWanted h (reserveWords s)) ≡ O.Reserve h s
+    wanted_of (with_wanted h (reserve_words s)) ≡ h → reserve_of (reserve_words s) ≡ s → own_of (with_wanted h (reserve_words s)) ≡ O.Reserve h s
 own-reserve h s p q = go s ∙ (λ i. O.Reserve (p i) (q i))
   where
-    go : (s : ReserveStage) → own_of (withWanted h (reserveWords s)) ≡ O.Reserve (wantedOf (withWanted h (reserveWords s))) (reserveOf (reserveWords s))
+    go : (s : ReserveStage) → own_of (with_wanted h (reserve_words s)) ≡ O.Reserve (wanted_of (with_wanted h (reserve_words s))) (reserve_of (reserve_words s))
     go Y.LoadBack = refl
     go (Y.LoadFront b) = refl
     go (Y.Resize (Z.LoadBack c)) = refl
@@ -165,10 +165,10 @@ own-reserve h s p q = go s ∙ (λ i. O.Reserve (p i) (q i))
     go (Y.Resize (Z.Swap ring)) = refl
 
 pub own_put :
-    (h : Haul) (s : PutStage) → haulOf (withHaul h (putWords s)) ≡ h → put_of (putWords s) ≡ s → own_of (withHaul h (putWords s)) ≡ O.Put h s
+    (h : Haul) (s : PutStage) → haul_of (with_haul h (put_words s)) ≡ h → put_of (put_words s) ≡ s → own_of (with_haul h (put_words s)) ≡ O.Put h s
 own_put h s p q = go s ∙ (λ i. O.Put (p i) (q i))
   where
-    go : (s : PutStage) → own_of (withHaul h (putWords s)) ≡ O.Put (haulOf (withHaul h (putWords s))) (put_of (putWords s))
+    go : (s : PutStage) → own_of (with_haul h (put_words s)) ≡ O.Put (haul_of (with_haul h (put_words s))) (put_of (put_words s))
     go (W.WriteCopy i job) = refl
     go (W.WriteOne i job) = refl
     go (W.Swap x X.ReadNear) = refl

@@ -3,16 +3,16 @@ use Rattle.std.specs.Prelude.{ℕ, ◌+◌, Bool, false, ◌&&◌, List, [], ◌
 use Rattle.base.specs.Tests.{pick}
 use Rattle.slots.specs.declared.queue.QueueWords.{QueueWords}
 use Rattle.slots.specs.declared.StageWords.{StageWords}
-use Rattle.slots.specs.Queue.{queueWords, queueOf, sameQueueB}
-use Rattle.slots.specs.Slots.{sameStageB}
-use Rattle.words.specs.Stage.{stageWords, stageOf}
+use Rattle.slots.specs.Queue.{queue_words, queue_of, same_queue_b}
+use Rattle.slots.specs.Slots.{same_stage_b}
+use Rattle.words.specs.Stage.{stage_words, stage_of}
 
 -- the number of `MACHINE_WORDS`
-abbrev pub machineSize : ℕ
-machineSize = 91
+abbrev pub machine_size : ℕ
+machine_size = 91
 
-abbrev pub queueIn : List ℕ → ℕ → QueueWords
-queueIn l at = record {
+abbrev pub queue_in : List ℕ → ℕ → QueueWords
+queue_in l at = record {
   flavor = slice_index l (at + 0);
   front = slice_index l (at + 1);
   back = slice_index l (at + 2);
@@ -21,8 +21,8 @@ queueIn l at = record {
   capacity = slice_index l (at + 5);
 }
 
-abbrev pub stageIn : List ℕ → ℕ → StageWords
-stageIn l at = record {
+abbrev pub stage_in : List ℕ → ℕ → StageWords
+stage_in l at = record {
   operation = slice_index l (at + 0);
   number = slice_index l (at + 1);
   kind = slice_index l (at + 2);
@@ -41,30 +41,30 @@ stageIn l at = record {
   capacity = slice_index l (at + 15);
 }
 
-abbrev pub putQueue : List ℕ → ℕ → QueueWords → List ℕ
-putQueue l at w = slice_set (slice_set (slice_set (slice_set (slice_set (slice_set l (at + 0) w.flavor) (at + 1) w.front) (at + 2) w.back) (at + 3) w.number) (at + 4) w.place) (at + 5) w.capacity
+abbrev pub put_queue : List ℕ → ℕ → QueueWords → List ℕ
+put_queue l at w = slice_set (slice_set (slice_set (slice_set (slice_set (slice_set l (at + 0) w.flavor) (at + 1) w.front) (at + 2) w.back) (at + 3) w.number) (at + 4) w.place) (at + 5) w.capacity
 
-abbrev pub putFour : List ℕ → ℕ → ℕ → List ℕ → List ℕ
-putFour l at k four =
+abbrev pub put_four : List ℕ → ℕ → ℕ → List ℕ → List ℕ
+put_four l at k four =
     slice_set (slice_set (slice_set (slice_set l (at + k) (slice_index four 0)) (at + (k + 1)) (slice_index four 1)) (at + (k + 2)) (slice_index four 2)) (at + (k + 3)) (slice_index four 3)
 
-abbrev pub putStage : List ℕ → ℕ → StageWords → List ℕ
-putStage l at w =
-    putFour (putFour (putFour (putFour l at 0 (w.operation ∷ w.number ∷ w.kind ∷ w.step ∷ [])) at 4 (w.f ∷ w.b ∷ w.n ∷ w.i ∷ [])) at 8
+abbrev pub put_stage : List ℕ → ℕ → StageWords → List ℕ
+put_stage l at w =
+    put_four (put_four (put_four (put_four l at 0 (w.operation ∷ w.number ∷ w.kind ∷ w.step ∷ [])) at 4 (w.f ∷ w.b ∷ w.n ∷ w.i ∷ [])) at 8
     (w.end ∷ w.job ∷ w.far ∷ w.hand ∷ [])) at 12
     (w.held ∷ w.ring ∷ w.place ∷ w.capacity ∷ [])
 
 -- words that are read as a queue whose words they are; and so of a stage
-abbrev pub queueB : QueueWords → Bool
-queueB w = sameQueueB w (queueWords (queueOf w))
+abbrev pub queue_b : QueueWords → Bool
+queue_b w = same_queue_b w (queue_words (queue_of w))
 
-abbrev pub stageB : StageWords → Bool
-stageB w = sameStageB w (stageWords (stageOf w))
+abbrev pub stage_b : StageWords → Bool
+stage_b w = same_stage_b w (stage_words (stage_of w))
 
 -- words that a machine has, sound or not
-unfoldable pub machineB : List ℕ → Bool
-machineB l =
-    pick (length l == machineSize)
-    ((queueB (queueIn l 3) && (queueB (queueIn l 9) && (queueB (queueIn l 15) && queueB (queueIn l 21)))) &&
-    (stageB (stageIn l 27) && (stageB (stageIn l 43) && (stageB (stageIn l 59) && stageB (stageIn l 75)))))
+unfoldable pub machine_b : List ℕ → Bool
+machine_b l =
+    pick (length l == machine_size)
+    ((queue_b (queue_in l 3) && (queue_b (queue_in l 9) && (queue_b (queue_in l 15) && queue_b (queue_in l 21)))) &&
+    (stage_b (stage_in l 27) && (stage_b (stage_in l 43) && (stage_b (stage_in l 59) && stage_b (stage_in l 75)))))
     false

@@ -1,12 +1,12 @@
 // What a batch remembers as words: its kind, what it wants, what it hauls.
 ghost use Rattle.std.specs.Prelude.{◌≡◌};
-ghost use Rattle.words.specs.Batch.{kindWord, kind_of, handWord, heldWord, handOf, withWanted, wantedOf, withHaul, haulOf};
+ghost use Rattle.words.specs.Batch.{kind_word, kind_of, hand_word, held_word, hand_of, with_wanted, wanted_of, with_haul, haul_of};
 
-use core::stage::{BatchKind, Haul, InHand, Wanted};
+use parts::stage::{BatchKind, Haul, InHand, Wanted};
 use slots::{StageWords, index_of, index_word};
 
 pub fn kind_word(kind: BatchKind) -> u64
-    ensures value { result ≡ kindWord kind }
+    ensures value { result ≡ kind_word kind }
     ensures result_value { kind_of result ≡ kind }
 {
     match kind {
@@ -25,7 +25,7 @@ pub fn kind_of(u: u64) -> BatchKind
 }
 
 fn hand_word(hand: InHand) -> u64
-    ensures { result ≡ handWord hand }
+    ensures { result ≡ hand_word hand }
 {
     match hand {
         InHand::Nothing => 0,
@@ -34,7 +34,7 @@ fn hand_word(hand: InHand) -> u64
 }
 
 fn held_word(hand: InHand) -> u64
-    ensures { result ≡ heldWord hand }
+    ensures { result ≡ held_word hand }
 {
     match hand {
         InHand::Nothing => 0,
@@ -43,7 +43,7 @@ fn held_word(hand: InHand) -> u64
 }
 
 fn hand_of(hand: u64, held: u64) -> InHand
-    ensures { result ≡ handOf hand held }
+    ensures { result ≡ hand_of hand held }
 {
     if hand == 0 {
         return InHand::Nothing;
@@ -52,8 +52,8 @@ fn hand_of(hand: u64, held: u64) -> InHand
 }
 
 pub fn with_wanted(mut w: StageWords, wanted: Wanted) -> StageWords
-    ensures value { result ≡ withWanted wanted w }
-    ensures result_value { wantedOf result ≡ wanted }
+    ensures value { result ≡ with_wanted wanted w }
+    ensures result_value { wanted_of result ≡ wanted }
 {
     let kind = wanted.kind;
     let f = wanted.f;
@@ -64,7 +64,7 @@ pub fn with_wanted(mut w: StageWords, wanted: Wanted) -> StageWords
 }
 
 pub fn wanted_of(w: StageWords) -> Wanted
-    ensures { result ≡ wantedOf w }
+    ensures { result ≡ wanted_of w }
 {
     Wanted {
         kind: kind_of(w.kind),
@@ -74,8 +74,8 @@ pub fn wanted_of(w: StageWords) -> Wanted
 }
 
 pub fn with_haul(mut w: StageWords, haul: Haul) -> StageWords
-    ensures value { result ≡ withHaul haul w }
-    ensures result_value { haulOf result ≡ haul }
+    ensures value { result ≡ with_haul haul w }
+    ensures result_value { haul_of result ≡ haul }
 {
     let ring = haul.ring;
     let f = haul.f;
@@ -90,10 +90,10 @@ pub fn with_haul(mut w: StageWords, haul: Haul) -> StageWords
 }
 
 pub fn haul_of(w: StageWords) -> Haul
-    ensures { result ≡ haulOf w }
+    ensures { result ≡ haul_of w }
 {
     Haul {
-        ring: w.ring_of(),
+        ring: w.ring_of_lem(),
         f: index_of(w.f),
         n: w.n,
         b: index_of(w.b),

@@ -1,15 +1,15 @@
 // The steps of a batch on the own queue as words: a reserve is 0, 1 and a resize; then 20; 30 to 32, and 40 to 43 for a swap.
 ghost use Rattle.std.specs.Prelude.{◌≡◌};
-ghost use Rattle.words.specs.BatchOwn.{reserveWords, reserveOf, swapWords, swapOf, putWords, put_of, own_words, own_of};
+ghost use Rattle.words.specs.BatchOwn.{reserve_words, reserve_of, swap_words, swap_of, put_words, put_of, own_words, own_of};
 
 use crate::batch::{haul_of, wanted_of, with_haul, with_wanted};
 use crate::resize::{resize_of, resize_words};
-use core::stage::{OwnStage, PutStage, ReserveStage, SwapStage};
+use parts::stage::{OwnStage, PutStage, ReserveStage, SwapStage};
 use slots::{StageWords, index_of, index_word};
 
 fn reserve_words(at: ReserveStage) -> StageWords
-    ensures value { result ≡ reserveWords at }
-    ensures result_value { reserveOf result ≡ at }
+    ensures value { result ≡ reserve_words at }
+    ensures result_value { reserve_of result ≡ at }
 {
     let mut w = StageWords::bare(0);
     match at {
@@ -28,7 +28,7 @@ fn reserve_words(at: ReserveStage) -> StageWords
 }
 
 fn reserve_of(w: StageWords) -> ReserveStage
-    ensures { result ≡ reserveOf w }
+    ensures { result ≡ reserve_of w }
 {
     let step = w.step;
     if step == 0 {
@@ -42,8 +42,8 @@ fn reserve_of(w: StageWords) -> ReserveStage
 }
 
 fn swap_words(at: SwapStage) -> StageWords
-    ensures value { result ≡ swapWords at }
-    ensures result_value { swapOf result ≡ at }
+    ensures value { result ≡ swap_words at }
+    ensures result_value { swap_of result ≡ at }
 {
     let mut w = StageWords::bare(40);
     match at {
@@ -70,7 +70,7 @@ fn swap_words(at: SwapStage) -> StageWords
 }
 
 fn swap_of(w: StageWords) -> SwapStage
-    ensures { result ≡ swapOf w }
+    ensures { result ≡ swap_of w }
 {
     let step = w.step;
     if step == 40 {
@@ -89,7 +89,7 @@ fn swap_of(w: StageWords) -> SwapStage
 }
 
 fn put_words(at: PutStage) -> StageWords
-    ensures value { result ≡ putWords at }
+    ensures value { result ≡ put_words at }
     ensures result_value { put_of result ≡ at }
 {
     let mut w = StageWords::bare(30);

@@ -1,13 +1,13 @@
 // The steps of a batch on its source as words: 0 to 2, and while the ring is held 20, 30 to 32 for all at once, 40 to 44 for one by one.
 ghost use Rattle.std.specs.Prelude.{◌≡◌};
-ghost use Rattle.words.specs.BatchSource.{allWords, all_of, oneWords, one_of, takeWords, take_of, sourceWords, source_of};
+ghost use Rattle.words.specs.BatchSource.{all_words, all_of, one_words, one_of, take_words, take_of, source_words, source_of};
 
 use crate::batch::{haul_of, kind_of, kind_word, wanted_of, with_haul, with_wanted};
-use core::stage::{AllStage, OneStage, SourceStage, TakeStage};
+use parts::stage::{AllStage, OneStage, SourceStage, TakeStage};
 use slots::{StageWords, index_of, index_word};
 
 fn all_words(at: AllStage) -> StageWords
-    ensures value { result ≡ allWords at }
+    ensures value { result ≡ all_words at }
     ensures result_value { all_of result ≡ at }
 {
     let mut w = StageWords::bare(30);
@@ -41,7 +41,7 @@ fn all_of(w: StageWords) -> AllStage
 }
 
 fn one_words(at: OneStage) -> StageWords
-    ensures value { result ≡ oneWords at }
+    ensures value { result ≡ one_words at }
     ensures result_value { one_of result ≡ at }
 {
     let mut w = StageWords::bare(40);
@@ -95,7 +95,7 @@ fn one_of(w: StageWords) -> OneStage
 }
 
 fn take_words(at: TakeStage) -> StageWords
-    ensures value { result ≡ takeWords at }
+    ensures value { result ≡ take_words at }
     ensures result_value { take_of result ≡ at }
 {
     match at {
@@ -127,7 +127,7 @@ fn take_of(w: StageWords) -> TakeStage
 }
 
 pub fn source_words(at: SourceStage) -> StageWords
-    ensures value { result ≡ sourceWords at }
+    ensures value { result ≡ source_words at }
     ensures result_value { source_of result ≡ at }
 {
     let mut w = StageWords::bare(0);

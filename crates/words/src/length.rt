@@ -1,12 +1,12 @@
 // A length, and a batch from the own queue, as words: steps 0 and 1.
 ghost use Rattle.std.specs.Prelude.{◌≡◌};
-ghost use Rattle.words.specs.Length.{lengthWords, length_of};
+ghost use Rattle.words.specs.Length.{length_words, length_of};
 
-use core::stage::LengthStage;
+use parts::stage::LengthStage;
 use slots::{StageWords, index_of, index_word};
 
 pub fn length_words(at: LengthStage) -> StageWords
-    ensures value { result ≡ lengthWords at }
+    ensures value { result ≡ length_words at }
     ensures result_value { length_of result ≡ at }
 {
     let mut w = StageWords::bare(0);

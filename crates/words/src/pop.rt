@@ -1,14 +1,14 @@
 // A pop as words: from a FIFO queue steps 0 to 4, a shrink those of a resize, from a LIFO queue steps 20 to 28.
 ghost use Rattle.std.specs.Prelude.{◌≡◌};
-ghost use Rattle.words.specs.Pop.{popperWord, popperOf, fifoWords, fifoOf, lifoWords, lifoOf, popWords, pop_of};
+ghost use Rattle.words.specs.Pop.{popper_word, popper_of, fifo_words, fifo_of, lifo_words, lifo_of, pop_words, pop_of};
 
 use crate::resize::{resize_of, resize_words};
-use core::stage::{FifoPopStage, LifoPopStage, PopStage, Popper};
+use parts::stage::{FifoPopStage, LifoPopStage, PopStage, Popper};
 use slots::{StageWords, index_of, index_word};
 
 pub fn popper_word(by: Popper) -> u64
-    ensures value { result ≡ popperWord by }
-    ensures result_value { popperOf result ≡ by }
+    ensures value { result ≡ popper_word by }
+    ensures result_value { popper_of result ≡ by }
 {
     match by {
         Popper::Pop => 0,
@@ -17,7 +17,7 @@ pub fn popper_word(by: Popper) -> u64
 }
 
 pub fn popper_of(u: u64) -> Popper
-    ensures { result ≡ popperOf u }
+    ensures { result ≡ popper_of u }
 {
     if u == 0 {
         return Popper::Pop;
@@ -26,8 +26,8 @@ pub fn popper_of(u: u64) -> Popper
 }
 
 pub fn fifo_words(at: FifoPopStage) -> StageWords
-    ensures value { result ≡ fifoWords at }
-    ensures result_value { fifoOf result ≡ at }
+    ensures value { result ≡ fifo_words at }
+    ensures result_value { fifo_of result ≡ at }
 {
     let mut w = StageWords::bare(0);
     match at {
@@ -60,7 +60,7 @@ pub fn fifo_words(at: FifoPopStage) -> StageWords
 }
 
 pub fn fifo_of(w: StageWords) -> FifoPopStage
-    ensures { result ≡ fifoOf w }
+    ensures { result ≡ fifo_of w }
 {
     let step = w.step;
     let b = index_of(w.b);
@@ -81,8 +81,8 @@ pub fn fifo_of(w: StageWords) -> FifoPopStage
 }
 
 pub fn lifo_words(at: LifoPopStage) -> StageWords
-    ensures value { result ≡ lifoWords at }
-    ensures result_value { lifoOf result ≡ at }
+    ensures value { result ≡ lifo_words at }
+    ensures result_value { lifo_of result ≡ at }
 {
     let mut w = StageWords::bare(20);
     match at {
@@ -136,7 +136,7 @@ pub fn lifo_words(at: LifoPopStage) -> StageWords
 }
 
 pub fn lifo_of(w: StageWords) -> LifoPopStage
-    ensures { result ≡ lifoOf w }
+    ensures { result ≡ lifo_of w }
 {
     let step = w.step;
     let b = index_of(w.b);
@@ -168,7 +168,7 @@ pub fn lifo_of(w: StageWords) -> LifoPopStage
 }
 
 pub fn pop_words(at: PopStage) -> StageWords
-    ensures value { result ≡ popWords at }
+    ensures value { result ≡ pop_words at }
     ensures result_value { pop_of result ≡ at }
 {
     match at {

@@ -1,14 +1,14 @@
 // A push as words: steps 0 to 3, and those of its resize.
 ghost use Rattle.std.specs.Prelude.{◌≡◌};
-ghost use Rattle.words.specs.Push.{pushWords, pushOf};
+ghost use Rattle.words.specs.Push.{push_words, push_of};
 
 use crate::resize::{resize_of, resize_words};
-use core::stage::PushStage;
+use parts::stage::PushStage;
 use slots::{StageWords, index_of, index_word};
 
 pub fn push_words(at: PushStage) -> StageWords
-    ensures value { result ≡ pushWords at }
-    ensures result_value { pushOf result ≡ at }
+    ensures value { result ≡ push_words at }
+    ensures result_value { push_of result ≡ at }
 {
     let mut w = StageWords::bare(0);
     match at {
@@ -39,7 +39,7 @@ pub fn push_words(at: PushStage) -> StageWords
 }
 
 pub fn push_of(w: StageWords) -> PushStage
-    ensures { result ≡ pushOf w }
+    ensures { result ≡ push_of w }
 {
     let step = w.step;
     let b = index_of(w.b);

@@ -1,13 +1,13 @@
 // A resize as words: steps 10 to 13 of a push, a pop and a batch.
 ghost use Rattle.std.specs.Prelude.{◌≡◌};
-ghost use Rattle.words.specs.Resize.{resizeWords, resizeOf};
+ghost use Rattle.words.specs.Resize.{resize_words, resize_of};
 
-use core::stage::ResizeStage;
+use parts::stage::ResizeStage;
 use slots::{StageWords, index_of, index_word};
 
 pub fn resize_words(at: ResizeStage) -> StageWords
-    ensures value { result ≡ resizeWords at }
-    ensures result_value { resizeOf result ≡ at }
+    ensures value { result ≡ resize_words at }
+    ensures result_value { resize_of result ≡ at }
 {
     let mut w = StageWords::bare(10);
     match at {
@@ -35,7 +35,7 @@ pub fn resize_words(at: ResizeStage) -> StageWords
 }
 
 pub fn resize_of(w: StageWords) -> ResizeStage
-    ensures { result ≡ resizeOf w }
+    ensures { result ≡ resize_of w }
 {
     let step = w.step;
     let capacity = w.capacity as usize;
@@ -46,7 +46,7 @@ pub fn resize_of(w: StageWords) -> ResizeStage
     if step == 11 {
         return ResizeStage::LoadFront { capacity, b };
     }
-    let ring = w.ring_of();
+    let ring = w.ring_of_lem();
     if step == 12 {
         return ResizeStage::Copy {
             b,

@@ -1,6 +1,6 @@
 // The words of queues and stages in a longer row of words. Past the row's end a word is 0, and nothing is put.
 ghost use Rattle.std.specs.Prelude.{◌≡◌, ◌+◌, ◌≤◌, slice_index, slice_set};
-ghost use Rattle.words.specs.Slices.{queueIn, stageIn, putQueue, putFour, putStage, queueB, stageB, machineB};
+ghost use Rattle.words.specs.Slices.{queue_in, stage_in, put_queue, put_four, put_stage, queue_b, stage_b, machine_b};
 
 use crate::stage::{stage_of, stage_words};
 use slots::queue::{QueueWords, queue_of, queue_words, same_queue};
@@ -22,7 +22,7 @@ pub fn word(words: &[u64], at: usize, k: usize) -> u64
 }
 
 pub fn queue_in(words: &[u64], at: usize) -> QueueWords
-    ensures { result ≡ queueIn words.now at }
+    ensures { result ≡ queue_in words.now at }
 {
     QueueWords {
         flavor: word(words, at, 0),
@@ -35,7 +35,7 @@ pub fn queue_in(words: &[u64], at: usize) -> QueueWords
 }
 
 pub fn stage_in(words: &[u64], at: usize) -> StageWords
-    ensures { result ≡ stageIn words.now at }
+    ensures { result ≡ stage_in words.now at }
 {
     StageWords {
         operation: word(words, at, 0),
@@ -70,7 +70,7 @@ pub fn put_word(words: &mut [u64], at: usize, k: usize, value: u64)
 }
 
 pub fn put_queue(words: &mut [u64], at: usize, w: QueueWords)
-    ensures { words.new ≡ putQueue words.old at w }
+    ensures { words.new ≡ put_queue words.old at w }
 {
     put_word(words, at, 0, w.flavor);
     put_word(words, at, 1, w.front);
@@ -83,7 +83,7 @@ pub fn put_queue(words: &mut [u64], at: usize, w: QueueWords)
 // Four words of a stage, from its k-th on.
 fn put_four(words: &mut [u64], at: usize, k: usize, four: [u64; 4])
     requires { k ≤ 12 }
-    ensures { words.new ≡ putFour words.old at k four }
+    ensures { words.new ≡ put_four words.old at k four }
 {
     put_word(words, at, k, four[0]);
     put_word(words, at, k + 1, four[1]);
@@ -92,7 +92,7 @@ fn put_four(words: &mut [u64], at: usize, k: usize, four: [u64; 4])
 }
 
 pub fn put_stage(words: &mut [u64], at: usize, w: StageWords)
-    ensures { words.new ≡ putStage words.old at w }
+    ensures { words.new ≡ put_stage words.old at w }
 {
     put_four(words, at, 0, [w.operation, w.number, w.kind, w.step]);
     put_four(words, at, 4, [w.f, w.b, w.n, w.i]);
@@ -102,7 +102,7 @@ pub fn put_stage(words: &mut [u64], at: usize, w: StageWords)
 
 // Words that a queue has.
 fn is_queue(words: &[u64], at: usize) -> bool
-    ensures { result ≡ queueB (queueIn words.now at) }
+    ensures { result ≡ queue_b (queue_in words.now at) }
 {
     let w = queue_in(words, at);
     same_queue(w, queue_words(queue_of(w)))
@@ -110,7 +110,7 @@ fn is_queue(words: &[u64], at: usize) -> bool
 
 // Words that a stage has.
 fn is_stage(words: &[u64], at: usize) -> bool
-    ensures { result ≡ stageB (stageIn words.now at) }
+    ensures { result ≡ stage_b (stage_in words.now at) }
 {
     let w = stage_in(words, at);
     same_stage(w, stage_words(stage_of(w)))
@@ -118,7 +118,7 @@ fn is_stage(words: &[u64], at: usize) -> bool
 
 // Words that a machine has, sound or not.
 pub fn is_machine(words: &[u64]) -> bool
-    ensures { result ≡ machineB words.now }
+    ensures { result ≡ machine_b words.now }
 {
     if words.len() != MACHINE_WORDS {
         return false;

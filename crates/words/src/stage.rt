@@ -1,6 +1,6 @@
 // A stage as words: the operation, the number that it carries, and the words of its step. Words of no operation are an idle stage.
 ghost use Rattle.std.specs.Prelude.{◌≡◌};
-ghost use Rattle.words.specs.Stage.{stageWords, stageOf};
+ghost use Rattle.words.specs.Stage.{stage_words, stage_of};
 
 use crate::batch_own::{own_of, own_words};
 use crate::batch_source::{source_of, source_words};
@@ -8,12 +8,12 @@ use crate::length::{length_of, length_words};
 use crate::pop::{pop_of, pop_words, popper_of, popper_word};
 use crate::push::{push_of, push_words};
 use crate::stealing::{steal_of, steal_words};
-use core::stage::Stage;
+use parts::stage::Stage;
 use slots::StageWords;
 
 pub fn stage_words(stage: Stage) -> StageWords
-    ensures value { result ≡ stageWords stage }
-    ensures result_value { stageOf result ≡ stage }
+    ensures value { result ≡ stage_words stage }
+    ensures result_value { stage_of result ≡ stage }
 {
     match stage {
         Stage::Idle => {
@@ -44,7 +44,7 @@ pub fn stage_words(stage: Stage) -> StageWords
 }
 
 pub fn stage_of(w: StageWords) -> Stage
-    ensures { result ≡ stageOf w }
+    ensures { result ≡ stage_of w }
 {
     let operation = w.operation;
     if operation == 1 {

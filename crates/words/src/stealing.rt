@@ -1,13 +1,13 @@
 // A steal as words: steps 0 to 5.
 ghost use Rattle.std.specs.Prelude.{◌≡◌};
-ghost use Rattle.words.specs.Stealing.{stealWords, stealOf};
+ghost use Rattle.words.specs.Stealing.{steal_words, steal_of};
 
-use core::stage::StealStage;
+use parts::stage::StealStage;
 use slots::{StageWords, index_of, index_word};
 
 pub fn steal_words(at: StealStage) -> StageWords
-    ensures value { result ≡ stealWords at }
-    ensures result_value { stealOf result ≡ at }
+    ensures value { result ≡ steal_words at }
+    ensures result_value { steal_of result ≡ at }
 {
     let mut w = StageWords::bare(0);
     match at {
@@ -45,7 +45,7 @@ pub fn steal_words(at: StealStage) -> StageWords
 }
 
 pub fn steal_of(w: StageWords) -> StealStage
-    ensures { result ≡ stealOf w }
+    ensures { result ≡ steal_of w }
 {
     let step = w.step;
     if step == 0 {
@@ -58,7 +58,7 @@ pub fn steal_of(w: StageWords) -> StealStage
     if step == 2 {
         return StealStage::LoadRing { f };
     }
-    let ring = w.ring_of();
+    let ring = w.ring_of_lem();
     if step == 3 {
         return StealStage::Read { f, ring };
     }

@@ -28,13 +28,13 @@ ascii end = []
 ascii (c then s) = code c ∷ ascii s
 
 -- how many digits n has, of k or more, f more at most
-unfoldable pub widthFrom : ℕ → ℕ → ℕ → ℕ
-widthFrom zero k n = k
-widthFrom (suc f) k n = pick (ltb n (10 ^ k)) k (widthFrom f (k + 1) n)
+unfoldable pub width_from : ℕ → ℕ → ℕ → ℕ
+width_from zero k n = k
+width_from (suc f) k n = pick (ltb n (10 ^ k)) k (width_from f (k + 1) n)
 
 -- a number below 10^20 in decimal digits, none in front that it can do without
 unfoldable pub decimal : ℕ → List ℕ
-decimal n = last_digits 10 (widthFrom 19 1 n) n
+decimal n = last_digits 10 (width_from 19 1 n) n
 
 abbrev pub signed : ℤ → List ℕ
 signed (pos n) = decimal n

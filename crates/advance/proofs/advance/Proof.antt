@@ -1,4 +1,4 @@
--- Each arm of `advance` is its clause of `advanceOf`, by what its calls ensure.
+-- Each arm of `advance` is its clause of `advance_of`, by what its calls ensure.
 use Rattle.std.proofs.Common.{rules}
 use Rattle.advance.proofs.advance.Statement.{statement}
 use Rattle.advance.proofs.advance.Tie as tie

@@ -1,4 +1,4 @@
--- Each arm is its clause of `ofLength`, at what the step gives.
+-- Each arm is its clause of `of_length`, at what the step gives.
 use Rattle.std.proofs.Common.{rules}
 use Rattle.advance.proofs.length_at.Statement.{statement}
 use Rattle.advance.proofs.length_at.Tie as tie

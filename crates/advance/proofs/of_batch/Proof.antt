@@ -1,4 +1,4 @@
--- Each arm of `of_batch` is its clause of `ofBatch`, by what its calls ensure.
+-- Each arm of `of_batch` is its clause of `of_batch`, by what its calls ensure.
 use Rattle.std.proofs.Common.{rules}
 use Rattle.advance.proofs.of_batch.Statement.{statement}
 use Rattle.advance.proofs.of_batch.Tie as tie

@@ -1,4 +1,4 @@
--- `ofBatch` of what the step gives, which is that of `own_of`.
+-- `of_batch` of what the step gives, which is that of `own_of`.
 use Rattle.std.proofs.Common.{rules}
 use Rattle.advance.proofs.own_at.Statement.{statement}
 use Rattle.advance.proofs.own_at.Tie as tie

@@ -1,4 +1,4 @@
--- Each arm is its clause of `ofOwnBatch`, at what the step gives.
+-- Each arm is its clause of `of_own_batch`, at what the step gives.
 use Rattle.std.proofs.Common.{rules}
 use Rattle.advance.proofs.own_batch_at.Statement.{statement}
 use Rattle.advance.proofs.own_batch_at.Tie as tie

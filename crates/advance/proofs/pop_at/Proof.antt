@@ -1,4 +1,4 @@
--- Each arm is its clause of `ofPop`, at what the step gives.
+-- Each arm is its clause of `of_pop`, at what the step gives.
 use Rattle.std.proofs.Common.{rules}
 use Rattle.advance.proofs.pop_at.Statement.{statement}
 use Rattle.advance.proofs.pop_at.Tie as tie

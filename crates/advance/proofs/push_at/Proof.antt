@@ -1,4 +1,4 @@
--- Each arm is its clause of `ofPush`, at what the step gives.
+-- Each arm is its clause of `of_push`, at what the step gives.
 use Rattle.std.proofs.Common.{rules}
 use Rattle.advance.proofs.push_at.Statement.{statement}
 use Rattle.advance.proofs.push_at.Tie as tie

@@ -1,4 +1,4 @@
--- `ofBatch` of what the step gives, which is that of `source_of`.
+-- `of_batch` of what the step gives, which is that of `source_of`.
 use Rattle.std.proofs.Common.{rules}
 use Rattle.advance.proofs.source_at.Statement.{statement}
 use Rattle.advance.proofs.source_at.Tie as tie

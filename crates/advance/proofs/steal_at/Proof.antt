@@ -1,4 +1,4 @@
--- Each arm is its clause of `ofSteal`, at what the step gives.
+-- Each arm is its clause of `of_steal`, at what the step gives.
 use Rattle.std.proofs.Common.{rules}
 use Rattle.advance.proofs.steal_at.Statement.{statement}
 use Rattle.advance.proofs.steal_at.Tie as tie

@@ -2,7 +2,7 @@
 use native.Mathlib.Omega.{arith}
 use borrow.Author.Rules.{rules}
 use Rattle.cells.specs.Cells.{written_of}
-use Rattle.cells.proofs.StandLaws.{opened, shut, opened-standing, at-below, put-back}
+use Rattle.cells.proofs.StandLaws.{opened, shut, opened_standing, at_below, put_back_lem}
 use Rattle.cells.proofs.write.Statement.{statement}
 use Rattle.cells.proofs.write.Tie as tie
 
@@ -19,13 +19,13 @@ returns c = rw (shut _ _ _ c.before.stands.ensures c.if1.true)
 mul-start : tie.Need-overflow-mul-start
 mul-start c =
     let d = c.before in
-    let s = opened-standing _ _ _ d.before.stands.ensures d.if1.false in
+    let s = opened_standing _ _ _ d.before.stands.ensures d.if1.false in
     omega arith
 
 add-end : tie.Need-overflow-add-end
 add-end c =
     let d = c.before.before in
-    let s = opened-standing _ _ _ d.before.stands.ensures d.if1.false in
+    let s = opened_standing _ _ _ d.before.stands.ensures d.if1.false in
     omega arith
 
 cell-requires : tie.Need-cell-requires
@@ -34,7 +34,7 @@ cell-requires c κs = search rules
 mul-put : tie.Need-overflow-mul-put
 mul-put c =
     let d = c.before.before.before in
-    let s = opened-standing _ _ _ d.before.stands.ensures d.if1.false in
+    let s = opened_standing _ _ _ d.before.stands.ensures d.if1.false in
     omega arith
 
 sub-put : tie.Need-overflow-sub-put
@@ -46,13 +46,13 @@ part-put-start c = search rules
 part-put-end : tie.Need-slice-bounds-put-end
 part-put-end c =
     let d = c.before.before.before in
-    let s = opened-standing _ _ _ d.before.stands.ensures d.if1.false in
+    let s = opened_standing _ _ _ d.before.stands.ensures d.if1.false in
     omega arith
 
 put-requires : tie.Need-put-requires
 put-requires c κs =
     let d = c.before.before.before.before in
-    at-below _ _ _ _ (opened _ _ _ d.before.stands.ensures d.if1.false) c.before.cell.ensures
+    at_below _ _ _ _ (opened _ _ _ d.before.stands.ensures d.if1.false) c.before.cell.ensures
 
 same-length-2 : tie.Need-same-length-2
 same-length-2 c = search rules
@@ -61,7 +61,7 @@ returns-2 : tie.Need-returns-2
 returns-2 c =
     let b = c.before.before.before.before in
     let d = b.before.before.before in
-    put-back _ _ _ _ _ _ (opened _ _ _ d.before.stands.ensures d.if1.false) b.cell.ensures c.before.before.put.ensures
+    put_back_lem _ _ _ _ _ _ (opened _ _ _ d.before.stands.ensures d.if1.false) b.cell.ensures c.before.before.put.ensures
 
 pub write_spec : {M : Type 1} → statement M
 write_spec =

@@ -1,6 +1,6 @@
 -- The bits of a number not below zero are its magnitude, and those of one below zero are as far below the largest.
 use Rattle.std.proofs.Common.{arith, rules}
-use Rattle.index.proofs.Signs.{back, not-below, below}
+use Rattle.index.proofs.Signs.{back, not_below, below}
 use Rattle.index.proofs.bits.Statement.{statement}
 use Rattle.index.proofs.bits.Tie as tie
 
@@ -17,7 +17,7 @@ returns : tie.Need-returns
 returns c =
     let a = c.before.before.args.a in
     let f = c.before.before.ranges.a.sfits in
-    rw (c.mag.ensures, back a f, not-below a f c.before.if1.true) (omega arith)
+    rw (c.mag.ensures, back a f, not_below a f c.before.if1.true) (omega arith)
 
 returns-2 : tie.Need-returns-2
 returns-2 c =

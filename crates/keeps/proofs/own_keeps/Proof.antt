@@ -1,4 +1,4 @@
--- Each arm of `own_keeps` is its clause of `ownKeeps`, by what its calls ensure.
+-- Each arm of `own_keeps` is its clause of `own_keeps`, by what its calls ensure.
 use Rattle.std.proofs.Common.{rules}
 use Rattle.keeps.proofs.own_keeps.Statement.{statement}
 use Rattle.keeps.proofs.own_keeps.Tie as tie

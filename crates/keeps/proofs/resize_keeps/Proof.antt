@@ -1,4 +1,4 @@
--- Each arm of `resize_keeps` is its clause of `resizeKeeps`.
+-- Each arm of `resize_keeps` is its clause of `resize_keeps`.
 use Rattle.std.proofs.Common.{rules}
 use Rattle.keeps.proofs.resize_keeps.Statement.{statement}
 use Rattle.keeps.proofs.resize_keeps.Tie as tie

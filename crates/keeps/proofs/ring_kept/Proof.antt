@@ -2,11 +2,11 @@
 use Rattle.std.proofs.Common.{◌≡◌, ℕ, List, [], ◌∷◌, refl, rules}
 use denote.Enum.Declared.{tag_of}
 use types.Run.{OneOf, miss}
-use Rattle.std.specs.contracts.stage.Stage.{the_type}
-use Rattle.std.specs.declared.stage.Stage.{Stage}
-use Rattle.std.specs.declared.stage.Stage.TheVariants.{Idle, Push, Pop, Steal, Length, OwnBatch, BatchSource, BatchOwn}
+use Rattle.parts.specs.contracts.stage.Stage.{the_type}
+use Rattle.parts.specs.declared.stage.Stage.{Stage}
+use Rattle.parts.specs.declared.stage.Stage.TheVariants.{Idle, Push, Pop, Steal, Length, OwnBatch, BatchSource, BatchOwn}
 use Rattle.keeps.specs.declared.Kept.TheVariants.{Nothing}
-use Rattle.keeps.specs.Kept.{keptOf}
+use Rattle.keeps.specs.Kept.{kept_of}
 use Rattle.keeps.proofs.ring_kept.Statement.{statement}
 use Rattle.keeps.proofs.ring_kept.Tie as tie
 
@@ -58,7 +58,7 @@ returns-5 c = rw (c.before.before.stage5.given.1, c.own-keeps.ensures)
 abbrev the_rest : List ℕ
 the_rest = 0 ∷ 4 ∷ 5 ∷ []
 
-nothing : (s : Stage) → OneOf the_rest (tag_of the_type s) → Nothing ≡ keptOf s
+nothing : (s : Stage) → OneOf the_rest (tag_of the_type s) → Nothing ≡ kept_of s
 nothing Idle h = refl
 nothing (Push job at) h = absurd (miss the_rest 1 tt h)
 nothing (Pop w at) h = absurd (miss the_rest 2 tt h)

@@ -1,4 +1,4 @@
--- Each arm of `source_keeps` is its clause of `sourceKeeps`, by what its calls ensure.
+-- Each arm of `source_keeps` is its clause of `source_keeps`, by what its calls ensure.
 use Rattle.std.proofs.Common.{rules}
 use Rattle.keeps.proofs.source_keeps.Statement.{statement}
 use Rattle.keeps.proofs.source_keeps.Tie as tie

@@ -1,4 +1,4 @@
--- Each arm of `steal_keeps` is its clause of `stealKeeps`.
+-- Each arm of `steal_keeps` is its clause of `steal_keeps`.
 use Rattle.std.proofs.Common.{rules}
 use Rattle.keeps.proofs.steal_keeps.Statement.{statement}
 use Rattle.keeps.proofs.steal_keeps.Tie as tie

@@ -1,4 +1,4 @@
--- Each arm of `has_source` is its clauses of `sourceB`.
+-- Each arm of `has_source` is its clauses of `source_b`.
 use Prim.Native.Nat.{ℕ}
 use mathlib.Core.Bool.{true, false}
 use mathlib.Core.List.{List, [], ◌∷◌}
@@ -8,7 +8,7 @@ use types.Run.{OneOf, miss}
 use Rattle.kinds.specs.contracts.Kind.{the_type}
 use Rattle.kinds.specs.declared.Kind.{Kind}
 use Rattle.kinds.specs.declared.Kind.TheVariants.{Step, Push, Pop, OwnLength, Length, Steal, Batch, BatchAndPop}
-use Rattle.kinds.specs.Kinds.{sourceB}
+use Rattle.kinds.specs.Kinds.{source_b}
 use Rattle.kinds.proofs.has_source.Statement.{statement}
 use Rattle.kinds.proofs.has_source.Tie as tie
 
@@ -18,7 +18,7 @@ those = 4 ∷ 5 ∷ 6 ∷ 7 ∷ []
 abbrev the_rest : List ℕ
 the_rest = 0 ∷ 1 ∷ 2 ∷ 3 ∷ []
 
-naming : (kind : Kind) → OneOf those (tag_of the_type kind) → true ≡ sourceB kind
+naming : (kind : Kind) → OneOf those (tag_of the_type kind) → true ≡ source_b kind
 naming Step h = absurd (miss those 0 tt h)
 naming Push h = absurd (miss those 1 tt h)
 naming Pop h = absurd (miss those 2 tt h)
@@ -28,7 +28,7 @@ naming Steal h = refl
 naming Batch h = refl
 naming BatchAndPop h = refl
 
-silent : (kind : Kind) → OneOf the_rest (tag_of the_type kind) → false ≡ sourceB kind
+silent : (kind : Kind) → OneOf the_rest (tag_of the_type kind) → false ≡ source_b kind
 silent Step h = refl
 silent Push h = refl
 silent Pop h = refl

@@ -1,4 +1,4 @@
--- Each arm of `request_of` is its clause of `requestOf`.
+-- Each arm of `request_of` is its clause of `request_of`.
 use borrow.Author.Rules.{rules}
 use Rattle.kinds.proofs.request_of.Statement.{statement}
 use Rattle.kinds.proofs.request_of.Tie as tie
@@ -40,7 +40,7 @@ returns-3 : tie.Need-returns-3
 returns-3 c = rw c.enum-told3.given.1
 
 returns-4 : tie.Need-returns-4
-returns-4 c = rw (c.before.enum-told4.given.1, c.own-queue.ensures)
+returns-4 c = rw (c.before.enum-told4.given.1, c.own_queue.ensures)
 
 returns-5 : tie.Need-returns-5
 returns-5 c = rw c.enum-told5.given.1

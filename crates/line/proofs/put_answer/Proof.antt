@@ -1,4 +1,4 @@
--- Each arm of `put_answer` is its clause of `answerText`, by what its calls ensure.
+-- Each arm of `put_answer` is its clause of `answer_text`, by what its calls ensure.
 use Rattle.std.proofs.Common.{◌^◌, ◌<◌, arith, rules}
 use lib.Signed.{mag}
 use Rattle.index.proofs.Signs.{back}

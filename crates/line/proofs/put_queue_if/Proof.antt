@@ -1,6 +1,6 @@
 -- A queue that is there is written; of one that is not, nothing.
 use Rattle.std.proofs.Common.{sym, rules, le-ltb, lt-ltb}
-use Rattle.writing.proofs.WritingLaws.{put-none}
+use Rattle.writing.proofs.WritingLaws.{put_none}
 use Rattle.line.proofs.put_queue_if.Statement.{statement}
 use Rattle.line.proofs.put_queue_if.Tie as tie
 
@@ -17,7 +17,7 @@ returns : tie.Need-returns
 returns c = rw (lt-ltb _ _ c.before.before.before.before.before.if1.true, ← c.before.before.before.queue-of.ensures) c.before.before.put-queue.ensures
 
 returns-2 : tie.Need-returns-2
-returns-2 c = rw (le-ltb _ _ c.if1.false) (sym (put-none _ _))
+returns-2 c = rw (le-ltb _ _ c.if1.false) (sym (put_none _ _))
 
 pub put-queue-if-spec : {M : Type 1} → statement M
 put-queue-if-spec =

@@ -1,4 +1,4 @@
--- Each arm of `put_stolen` is its clause of `stolenText`, by what its calls ensure.
+-- Each arm of `put_stolen` is its clause of `stolen_text`, by what its calls ensure.
 use Rattle.std.proofs.Common.{rules}
 use Rattle.line.proofs.put_stolen.Statement.{statement}
 use Rattle.line.proofs.put_stolen.Tie as tie

@@ -13,7 +13,7 @@ returns : tie.Need-returns
 returns c = search rules
 
 returns-2 : tie.Need-returns-2
-returns-2 c = rw c.before.in-hand.given.1
+returns-2 c = rw c.before.in_hand_lem.given.1
 
 pub answer-spec : {M : Type 1} → statement M
 answer-spec = tie.close (tie.spec enum_told enum-known-in-hand returns returns-2)

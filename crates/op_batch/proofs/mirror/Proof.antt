@@ -1,4 +1,4 @@
--- `mirror` is `mirrorOf`, by what its calls ensure.
+-- `mirror` is `mirror_of`, by what its calls ensure.
 use Rattle.std.proofs.Common.{rules}
 use Rattle.op_batch.proofs.mirror.Statement.{statement}
 use Rattle.op_batch.proofs.mirror.Tie as tie

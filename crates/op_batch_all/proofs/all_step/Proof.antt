@@ -1,4 +1,4 @@
--- Each arm of `all_step` is its clause of `allStepOf`, each test the definition's own, by what its calls ensure.
+-- Each arm of `all_step` is its clause of `all_step_of`, each test the definition's own, by what its calls ensure.
 use Rattle.std.proofs.Common.{rules, eq-eqb, ne_eqb}
 use Rattle.op_batch_all.proofs.all_step.Statement.{statement}
 use Rattle.op_batch_all.proofs.all_step.Tie as tie

@@ -1,4 +1,4 @@
--- Each arm of `one_step` is its clause of `oneStepOf`, each test the definition's own, by what its calls ensure.
+-- Each arm of `one_step` is its clause of `one_step_of`, each test the definition's own, by what its calls ensure.
 use Rattle.std.proofs.Common.{rules, eq-eqb, ne_eqb}
 use Rattle.op_batch_one.proofs.one_step.Statement.{statement}
 use Rattle.op_batch_one.proofs.one_step.Tie as tie

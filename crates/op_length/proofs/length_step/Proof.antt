@@ -1,4 +1,4 @@
--- Each arm of `length_step` is its clause of `lengthStepOf`, by what its calls ensure.
+-- Each arm of `length_step` is its clause of `length_step_of`, by what its calls ensure.
 use Rattle.std.proofs.Common.{w64, rules}
 use mir.ValLaws.{to_z-of_z}
 use Rattle.op_length.proofs.length_step.Statement.{statement}

@@ -1,4 +1,4 @@
--- Each arm of `own_batch_step` is its clause of `ownBatchOf`, each test the definition's own, by what its calls ensure.
+-- Each arm of `own_batch_step` is its clause of `own_batch_of`, each test the definition's own, by what its calls ensure.
 use Rattle.std.proofs.Common.{rules}
 use Rattle.op_length.proofs.own_batch_step.Statement.{statement}
 use Rattle.op_length.proofs.own_batch_step.Tie as tie

@@ -1,4 +1,4 @@
--- Each arm of `fifo_pop_step` is its clause of `fifoPopOf`, each test the definition's own, by what its calls ensure.
+-- Each arm of `fifo_pop_step` is its clause of `fifo_pop_of`, each test the definition's own, by what its calls ensure.
 use Rattle.std.proofs.Common.{add-one, rules}
 use Rattle.op_pop_fifo.proofs.fifo_pop_step.Statement.{statement}
 use Rattle.op_pop_fifo.proofs.fifo_pop_step.Tie as tie

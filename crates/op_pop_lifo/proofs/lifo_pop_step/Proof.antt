@@ -1,4 +1,4 @@
--- Each arm of `lifo_pop_step` is its clause of `lifoPopOf`, each test the definition's own, by what its calls ensure.
+-- Each arm of `lifo_pop_step` is its clause of `lifo_pop_of`, each test the definition's own, by what its calls ensure.
 use Rattle.std.proofs.Common.{rules}
 use Rattle.op_pop_lifo.proofs.lifo_pop_step.Statement.{statement}
 use Rattle.op_pop_lifo.proofs.lifo_pop_step.Tie as tie

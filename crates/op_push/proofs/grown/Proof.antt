@@ -1,4 +1,4 @@
--- Each arm of `grown` is its clause of `grownOf`, by what its calls ensure.
+-- Each arm of `grown` is its clause of `grown_of`, by what its calls ensure.
 use Rattle.std.proofs.Common.{rules}
 use Rattle.op_push.proofs.grown.Statement.{statement}
 use Rattle.op_push.proofs.grown.Tie as tie

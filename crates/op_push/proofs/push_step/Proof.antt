@@ -1,4 +1,4 @@
--- Each arm of `push_step` is its clause of `pushOf`, each test the definition's own, by what its calls ensure.
+-- Each arm of `push_step` is its clause of `push_of`, each test the definition's own, by what its calls ensure.
 use Rattle.std.proofs.Common.{rules}
 use Rattle.op_push.proofs.push_step.Statement.{statement}
 use Rattle.op_push.proofs.push_step.Tie as tie

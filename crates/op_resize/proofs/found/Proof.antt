@@ -1,4 +1,4 @@
--- Each branch of `found` is that of `foundOf`.
+-- Each branch of `found` is that of `found_of`.
 use Rattle.std.proofs.Common.{le-ltb, lt-ltb}
 use Rattle.op_resize.proofs.found.Statement.{statement}
 use Rattle.op_resize.proofs.found.Tie as tie

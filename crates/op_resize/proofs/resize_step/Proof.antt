@@ -1,4 +1,4 @@
--- Each arm of `resize_step` is its clause of `resizeOf`, by what its calls ensure.
+-- Each arm of `resize_step` is its clause of `resize_of`, by what its calls ensure.
 use Rattle.std.proofs.Common.{rules}
 use Rattle.op_resize.proofs.resize_step.Statement.{statement}
 use Rattle.op_resize.proofs.resize_step.Tie as tie

@@ -1,4 +1,4 @@
--- Each arm of `job_for` is its clause of `jobFor`.
+-- Each arm of `job_for` is its clause of `job_for`.
 use Rattle.std.proofs.Common.{rules}
 use Rattle.op_shrink.proofs.job_for.Statement.{statement}
 use Rattle.op_shrink.proofs.job_for.Tie as tie

@@ -1,4 +1,4 @@
--- Each arm of `nothing_for` is its clause of `nothingFor`.
+-- Each arm of `nothing_for` is its clause of `nothing_for`.
 use Rattle.std.proofs.Common.{rules}
 use Rattle.op_shrink.proofs.nothing_for.Statement.{statement}
 use Rattle.op_shrink.proofs.nothing_for.Tie as tie

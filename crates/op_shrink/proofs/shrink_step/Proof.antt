@@ -1,4 +1,4 @@
--- `shrink_step` is `shrinkOf`, by what its calls ensure.
+-- `shrink_step` is `shrink_of`, by what its calls ensure.
 use Rattle.std.proofs.Common.{rules}
 use Rattle.op_shrink.proofs.shrink_step.Statement.{statement}
 use Rattle.op_shrink.proofs.shrink_step.Tie as tie

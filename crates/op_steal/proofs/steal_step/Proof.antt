@@ -1,4 +1,4 @@
--- Each arm of `steal_step` is its clause of `stealOf`, each test the definition's own, by what its calls ensure.
+-- Each arm of `steal_step` is its clause of `steal_of`, each test the definition's own, by what its calls ensure.
 use Rattle.std.proofs.Common.{rules, eq-eqb, ne_eqb}
 use Rattle.op_steal.proofs.steal_step.Statement.{statement}
 use Rattle.op_steal.proofs.steal_step.Tie as tie

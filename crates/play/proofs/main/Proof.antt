@@ -4,7 +4,7 @@ use native.Mathlib.Omega.{arith}
 use borrow.Author.Rules.{rules}
 use lib.ListN.{length}
 use Rattle.line.specs.Line.{Room}
-use Rattle.play.proofs.CountLaws.{not-over}
+use Rattle.play.proofs.CountLaws.{not_over}
 use Rattle.play.proofs.main.Statement.{statement}
 use Rattle.play.proofs.main.Tie as tie
 
@@ -89,7 +89,7 @@ loop-again c =
     let p = c.before.before.before.play-part in
     let i = c.before.before.before.before.before.before.before.before.before.before.before.before.before.before.loop.invariant in
     let t = c.before.before.before.before.before.before.before.before.before.before.before.read in
-    (t.auto.1.0 ∙ i.0, p.auto.1.1.1.0 ∙ i.1, p.auto.1.1.0 ∙ i.2, not-over _ p.ensures c.if2.false)
+    (t.auto.1.0 ∙ i.0, p.auto.1.1.1.0 ∙ i.1, p.auto.1.1.0 ∙ i.2, not_over _ p.ensures c.if2.false)
 
 returns-3 : tie.Need-returns-3 invariant-loop decreases-loop
 returns-3 c = search rules

@@ -5,9 +5,9 @@ use Prim.Native.Nat.{◌-◌, ◌≤◌, ◌<◌}
 use native.Mathlib.Omega.{arith}
 use borrow.Author.Rules.{rules}
 use lib.ListN.{length, take, drop}
-use Rattle.player.proofs.PlayerLaws.{listen-within, listen-some}
+use Rattle.player.proofs.PlayerLaws.{listen_within, listen_some}
 use Rattle.line.specs.Line.{Room}
-use Rattle.play.proofs.CountLaws.{left, still-room}
+use Rattle.play.proofs.CountLaws.{left, still_room}
 use Rattle.play.proofs.play_part.Statement.{statement}
 use Rattle.play.proofs.play_part.Tie as tie
 
@@ -40,17 +40,17 @@ add-from c =
     let part = l.before.before.before.before.args.part.now in
     let rest = take (length part - l.loop.from) (drop l.loop.from part) in
     let e : length rest ≡ length part - l.loop.from = left l.loop.from part in
-    let w : n.result.used ≤ length rest = rw n.ensures (listen-within _ rest) in
+    let w : n.result.used ≤ length rest = rw n.ensures (listen_within _ rest) in
     record { fits = omega arith }
 
 act-whole-requires : tie.Need-act-whole-requires invariant-loop decreases-loop
 act-whole-requires c κs = c.before.before.before.before.before.before.loop.invariant.3
 
 same_length : tie.Need-same-length invariant-loop decreases-loop
-same_length c = let a = c.before.before.before.before.before in a.act-whole.auto.1.1.0 ∙ a.before.before.before.before.before.before.before.loop.invariant.1
+same_length c = let a = c.before.before.before.before.before in a.act_whole.auto.1.1.0 ∙ a.before.before.before.before.before.before.before.loop.invariant.1
 
 same-length-2 : tie.Need-same-length-2 invariant-loop decreases-loop
-same-length-2 c = let a = c.before.before.before.before.before in a.act-whole.auto.1.1.1.0 ∙ a.before.before.before.before.before.before.before.loop.invariant.2
+same-length-2 c = let a = c.before.before.before.before.before in a.act_whole.auto.1.1.1.0 ∙ a.before.before.before.before.before.before.before.loop.invariant.2
 
 returns : tie.Need-returns invariant-loop decreases-loop
 returns c = inl c.if1.true
@@ -59,7 +59,7 @@ turn-page-requires : tie.Need-turn-page-requires invariant-loop decreases-loop
 turn-page-requires c κs =
     let a = c.before.before.before.before.before.before in
     let l = a.before.before.before.before.before.before.before.loop in
-    still-room l.stand.at a.act-whole.auto.1.1.1.0 l.invariant.3
+    still_room l.stand.at a.act_whole.auto.1.1.1.0 l.invariant.3
 
 loop-less : tie.Need-loop-smaller invariant-loop decreases-loop
 loop-less c =
@@ -68,10 +68,10 @@ loop-less c =
     let part = l.before.before.before.before.args.part.now in
     let rest = take (length part - l.loop.from) (drop l.loop.from part) in
     let e : length rest ≡ length part - l.loop.from = left l.loop.from part in
-    let w : n.result.used ≤ length rest = rw n.ensures (listen-within _ rest) in
+    let w : n.result.used ≤ length rest = rw n.ensures (listen_within _ rest) in
     let t = c.before.before.before.before.before.before.before.before.before.before.before.before.before.loop-test.true in
     let h : 0 < length rest = omega (arith, t) in
-    let s : 0 < n.result.used = rw n.ensures (listen-some _ rest h) in
+    let s : 0 < n.result.used = rw n.ensures (listen_some _ rest h) in
     omega arith
 
 loop-again : tie.Need-loop-preserved invariant-loop decreases-loop
@@ -81,8 +81,8 @@ loop-again c =
     let part = l.before.before.before.before.args.part.now in
     let rest = take (length part - l.loop.from) (drop l.loop.from part) in
     let e : length rest ≡ length part - l.loop.from = left l.loop.from part in
-    let w : n.result.used ≤ length rest = rw n.ensures (listen-within _ rest) in
-    let a = c.before.before.before.before.before.before.before.act-whole in
+    let w : n.result.used ≤ length rest = rw n.ensures (listen_within _ rest) in
+    let a = c.before.before.before.before.before.before.before.act_whole in
     (omega arith, a.auto.1.1.0 ∙ l.loop.invariant.1, a.auto.1.1.1.0 ∙ l.loop.invariant.2, c.turn-page.ensures)
 
 same-length-3 : tie.Need-same-length-3 invariant-loop decreases-loop

@@ -1,6 +1,6 @@
 -- The test is the definition's own, by what its calls ensure.
 use Rattle.std.proofs.Common.{rules}
-use Rattle.writing.proofs.WritingLaws.{put-none}
+use Rattle.writing.proofs.WritingLaws.{put_none}
 use Rattle.player.proofs.close.Statement.{statement}
 use Rattle.player.proofs.close.Tie as tie
 
@@ -8,7 +8,7 @@ is-whole-requires : tie.Need-is-whole-requires
 is-whole-requires c κs = search rules
 
 returns : tie.Need-returns
-returns c = rw (← c.before.is_whole.ensures, c.if1.true, put-none)
+returns c = rw (← c.before.is_whole.ensures, c.if1.true, put_none)
 
 put-bad-requires : tie.Need-put-bad-requires
 put-bad-requires c κs = search rules

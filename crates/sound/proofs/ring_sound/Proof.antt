@@ -1,4 +1,4 @@
--- `ring_sound` is `ringSound`, by what its calls ensure.
+-- `ring_sound` is `ring_sound`, by what its calls ensure.
 use Rattle.std.proofs.Common.{rules}
 use Rattle.sound.proofs.ring_sound.Statement.{statement}
 use Rattle.sound.proofs.ring_sound.Tie as tie

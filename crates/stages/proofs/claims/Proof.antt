@@ -2,10 +2,10 @@
 use Rattle.std.proofs.Common.{◌≡◌, ℕ, false, List, [], ◌∷◌, refl, rules}
 use denote.Enum.Declared.{tag_of}
 use types.Run.{OneOf, miss}
-use Rattle.std.specs.contracts.stage.Stage.{the_type}
-use Rattle.std.specs.declared.stage.Stage.{Stage}
-use Rattle.std.specs.declared.stage.Stage.TheVariants.{Idle, Push, Pop, Steal, Length, OwnBatch, BatchSource, BatchOwn}
-use Rattle.stages.specs.Stages.{claimsB}
+use Rattle.parts.specs.contracts.stage.Stage.{the_type}
+use Rattle.parts.specs.declared.stage.Stage.{Stage}
+use Rattle.parts.specs.declared.stage.Stage.TheVariants.{Idle, Push, Pop, Steal, Length, OwnBatch, BatchSource, BatchOwn}
+use Rattle.stages.specs.Stages.{claims_b}
 use Rattle.stages.proofs.claims.Statement.{statement}
 use Rattle.stages.proofs.claims.Tie as tie
 
@@ -39,7 +39,7 @@ returns-3 c = rw (c.before.before.stage3.given.1, c.own-claims.ensures)
 abbrev the_rest : List ℕ
 the_rest = 0 ∷ 3 ∷ 4 ∷ 5 ∷ 6 ∷ []
 
-none : (s : Stage) → OneOf the_rest (tag_of the_type s) → false ≡ claimsB s
+none : (s : Stage) → OneOf the_rest (tag_of the_type s) → false ≡ claims_b s
 none Idle h = refl
 none (Push job at) h = absurd (miss the_rest 1 tt h)
 none (Pop w at) h = absurd (miss the_rest 2 tt h)

@@ -2,10 +2,10 @@
 use Rattle.std.proofs.Common.{◌≡◌, ℕ, false, List, [], ◌∷◌, refl, rules}
 use denote.Enum.Declared.{tag_of}
 use types.Run.{OneOf, miss}
-use Rattle.std.specs.contracts.stage.Stage.{the_type}
-use Rattle.std.specs.declared.stage.Stage.{Stage}
-use Rattle.std.specs.declared.stage.Stage.TheVariants.{Idle, Push, Pop, Steal, Length, OwnBatch, BatchSource, BatchOwn}
-use Rattle.stages.specs.Stages.{idleB}
+use Rattle.parts.specs.contracts.stage.Stage.{the_type}
+use Rattle.parts.specs.declared.stage.Stage.{Stage}
+use Rattle.parts.specs.declared.stage.Stage.TheVariants.{Idle, Push, Pop, Steal, Length, OwnBatch, BatchSource, BatchOwn}
+use Rattle.stages.specs.Stages.{idle_b}
 use Rattle.stages.proofs.is_idle.Statement.{statement}
 use Rattle.stages.proofs.is_idle.Tie as tie
 
@@ -18,7 +18,7 @@ returns c = search rules
 abbrev the_rest : List ℕ
 the_rest = 1 ∷ 2 ∷ 3 ∷ 4 ∷ 5 ∷ 6 ∷ 7 ∷ []
 
-busy : (s : Stage) → OneOf the_rest (tag_of the_type s) → false ≡ idleB s
+busy : (s : Stage) → OneOf the_rest (tag_of the_type s) → false ≡ idle_b s
 busy Idle h = absurd (miss the_rest 0 tt h)
 busy (Push job at) h = refl
 busy (Pop w at) h = refl

@@ -2,10 +2,10 @@
 use Rattle.std.proofs.Common.{◌≡◌, ℕ, List, [], ◌∷◌, refl, rules}
 use denote.Enum.Declared.{tag_of}
 use types.Run.{OneOf, miss}
-use Rattle.std.specs.contracts.stage.Stage.{the_type}
-use Rattle.std.specs.declared.stage.Stage.{Stage}
-use Rattle.std.specs.declared.stage.Stage.TheVariants.{Idle, Push, Pop, Steal, Length, OwnBatch, BatchSource, BatchOwn}
-use Rattle.stages.specs.Stages.{touchedOf}
+use Rattle.parts.specs.contracts.stage.Stage.{the_type}
+use Rattle.parts.specs.declared.stage.Stage.{Stage}
+use Rattle.parts.specs.declared.stage.Stage.TheVariants.{Idle, Push, Pop, Steal, Length, OwnBatch, BatchSource, BatchOwn}
+use Rattle.stages.specs.Stages.{touched_of}
 use Rattle.stages.proofs.touched.Statement.{statement}
 use Rattle.stages.proofs.touched.Tie as tie
 
@@ -30,7 +30,7 @@ returns-3 c = search rules
 abbrev the_rest : List ℕ
 the_rest = 0 ∷ 1 ∷ 2 ∷ 5 ∷ 7 ∷ []
 
-at_own : (s : Stage) (own : ℕ) → OneOf the_rest (tag_of the_type s) → own ≡ touchedOf s own
+at_own : (s : Stage) (own : ℕ) → OneOf the_rest (tag_of the_type s) → own ≡ touched_of s own
 at_own Idle own h = refl
 at_own (Push job at) own h = refl
 at_own (Pop w at) own h = refl

@@ -1,4 +1,4 @@
--- Each arm of `first_stage` is its clause of `firstStage`, each test the definition's own, by what its calls ensure.
+-- Each arm of `first_stage` is its clause of `first_stage`, each test the definition's own, by what its calls ensure.
 use Rattle.std.proofs.Common.{rules, eq-eqb, ne_eqb}
 use Rattle.starts.proofs.first_stage.Statement.{statement}
 use Rattle.starts.proofs.first_stage.Tie as tie

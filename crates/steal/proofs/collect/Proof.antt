@@ -6,7 +6,7 @@ use native.Mathlib.Numerals.{add-one}
 use borrow.Author.Rules.{rules}
 use lib.ListN.{take, length}
 use Rattle.steal.specs.Steal.{collected, answers}
-use Rattle.steal.proofs.Lists.{collected-snoc, answers-suc, answers-short, answers-all}
+use Rattle.steal.proofs.Lists.{collected_snoc, answers_suc, answers_short, answers_all}
 use Rattle.steal.proofs.collect.Statement.{statement}
 use Rattle.steal.proofs.collect.Tie as tie
 
@@ -23,7 +23,7 @@ loop-holds c = (omega arith, refl)
 returns : tie.Need-returns invariant-loop decreases-loop
 returns c =
     let a = c.before.before.before.before.before.args in
-    c.before.before.loop.invariant.1 ∙ ap collected (answers-short a.numbers.now a.values.now c.before.before.loop.i c.if1.true)
+    c.before.before.loop.invariant.1 ∙ ap collected (answers_short a.numbers.now a.values.now c.before.before.loop.i c.if1.true)
 
 mul-of : tie.Need-overflow-mul-of invariant-loop decreases-loop
 mul-of c = omega arith
@@ -56,14 +56,14 @@ loop-again c =
     let h : l.loop.i < length a.numbers.now = omega arith in
     let g : l.loop.i < length a.values.now = omega arith in (
       omega arith,
-      rw (add-one, answers-suc a.numbers.now a.values.now l.loop.i h g, collected-snoc, ← l.loop.invariant.1, ← c.before.of.ensures)
+      rw (add-one, answers_suc a.numbers.now a.values.now l.loop.i h g, collected_snoc, ← l.loop.invariant.1, ← c.before.of.ensures)
           c.or_else.ensures,
     )
 
 returns-2 : tie.Need-returns-2 invariant-loop decreases-loop
 returns-2 c =
     let a = c.before.before.before.before.args in
-    c.before.loop.invariant.1 ∙ ap collected (answers-all a.numbers.now a.values.now c.before.loop.i c.loop-test.false)
+    c.before.loop.invariant.1 ∙ ap collected (answers_all a.numbers.now a.values.now c.before.loop.i c.loop-test.false)
 
 pub collect-spec : {M : Type 1} → statement M
 collect-spec =

@@ -3,7 +3,7 @@ use mathlib.Core.Path.{ap, ◌∙◌}
 use native.Mathlib.Omega.{arith}
 use borrow.Author.Rules.{rules}
 use Rattle.writing.specs.Writing.{put}
-use Rattle.writing.proofs.WritingLaws.{decimal-is}
+use Rattle.writing.proofs.WritingLaws.{decimal_is}
 use Rattle.writing.proofs.put_number.Statement.{statement}
 use Rattle.writing.proofs.put_number.Tie as tie
 
@@ -25,7 +25,7 @@ same_length c = search rules
 returns : tie.Need-returns
 returns c =
     let d = c.before.before.before.before.before.decimal in
-    c.before.before.put-text.ensures ∙ ap (put _ _) (d.ensures.1.1 ∙ decimal-is _ _ d.ensures.1.0 (omega arith))
+    c.before.before.put-text.ensures ∙ ap (put _ _) (d.ensures.1.1 ∙ decimal_is _ _ d.ensures.1.0 (omega arith))
 
 pub put-number-spec : {M : Type 1} → statement M
 put-number-spec =

@@ -6,7 +6,7 @@ use native.Mathlib.Omega.{arith}
 use lib.Signed.{mag}
 use borrow.Author.Rules.{rules}
 use Rattle.writing.specs.Writing.{put, decimal, signed}
-use Rattle.index.proofs.Signs.{back, not-below, below}
+use Rattle.index.proofs.Signs.{back, not_below, below}
 use Rattle.writing.proofs.WritingLaws.{put_then}
 use Rattle.writing.proofs.put_signed.Statement.{statement}
 use Rattle.writing.proofs.put_signed.Tie as tie
@@ -25,7 +25,7 @@ returns c =
     let s = c.before.before.before.before.before.before.before in
     let z = s.args.z in
     let f = s.ranges.z.sfits in
-    let e : signed z ≡ decimal (mag z) = ap signed (not-below z f c.before.before.before.before.before.if1.true) in
+    let e : signed z ≡ decimal (mag z) = ap signed (not_below z f c.before.before.before.before.before.if1.true) in
     let m : c.before.before.before.mag.result ≡ mag z = c.before.before.before.mag.ensures ∙ ap mag (back z f) in
     c.before.before.put-number.ensures ∙ ap (put _ _) (ap decimal m ∙ sym e)
 

@@ -1,6 +1,6 @@
 -- Words that are not as many as a machine has are refused; otherwise by what the calls ensure.
 use Rattle.std.proofs.Common.{rules, eq-eqb, ne_eqb}
-use Rattle.export.specs.Exported.{setupWords}
+use Rattle.export.specs.Exported.{setup_words}
 use Rattle.export.proofs.exported.setup.Statement.{statement}
 use Rattle.export.proofs.exported.setup.Tie as tie
 
@@ -8,7 +8,7 @@ no-machine-requires : tie.Need-no-machine-requires
 no-machine-requires c κs = search rules
 
 returns : tie.Need-returns
-unfolding setupWords
+unfolding setup_words
 returns c = (rw (c.no-machine.ensures, ne_eqb _ _ c.before.if1.true), λ h. absurd (c.before.if1.true h))
 
 flavors-of-requires : tie.Need-flavors-of-requires
@@ -24,7 +24,7 @@ same_length : tie.Need-same-length
 same_length c = search rules
 
 returns-2 : tie.Need-returns-2
-unfolding setupWords
+unfolding setup_words
 returns-2 c =
     let left = c.before.before.leave in
     let setup = c.before.before.before.before.setup in

@@ -1,6 +1,6 @@
 -- By what its calls ensure.
 use Rattle.std.proofs.Common.{rules}
-use Rattle.export.specs.Words.{machineIn}
+use Rattle.export.specs.Words.{machine_in}
 use Rattle.export.proofs.reading.machine_in.Statement.{statement}
 use Rattle.export.proofs.reading.machine_in.Tie as tie
 
@@ -20,7 +20,7 @@ word-requires-3 : tie.Need-word-requires-3
 word-requires-3 c κs = search rules
 
 returns : tie.Need-returns
-unfolding machineIn
+unfolding machine_in
 returns c = rw (c.word3.ensures, c.before.word2.ensures, c.before.before.word.ensures, c.before.before.before.threads-in.ensures, c.before.before.before.before.queues-in.ensures)
 
 pub machine-in-spec : {M : Type 1} → statement M

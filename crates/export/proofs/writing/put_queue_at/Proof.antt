@@ -1,6 +1,6 @@
 -- By what its calls ensure.
 use Rattle.std.proofs.Common.{rules}
-use Rattle.slots.specs.Queue.{queueOf}
+use Rattle.slots.specs.Queue.{queue_of}
 use Rattle.words.proofs.Steps.{tells}
 use Rattle.export.proofs.writing.put_queue_at.Statement.{statement}
 use Rattle.export.proofs.writing.put_queue_at.Tie as tie
@@ -17,7 +17,7 @@ same_length c = search rules
 returns : tie.Need-returns
 returns c =
     let w = c.before.before.before.queue-words in
-    (rw (c.before.before.put-queue.ensures, w.ensures.0), tells queueOf w.ensures)
+    (rw (c.before.before.put-queue.ensures, w.ensures.0), tells queue_of w.ensures)
 
 pub put-queue-at-spec : {M : Type 1} → statement M
 put-queue-at-spec =

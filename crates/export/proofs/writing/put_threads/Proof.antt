@@ -1,14 +1,14 @@
 -- Each part is put behind the last, and read back as its call ensures.
 use Rattle.std.proofs.Common.{◌≡◌, ℕ, List, length, ap, ◌∙◌, arith, rules}
-use Rattle.std.specs.declared.stage.Stage.{Stage}
-use Rattle.words.specs.Stage.{stageWords}
-use Rattle.words.specs.Slices.{putStage}
-use Rattle.export.specs.Words.{threadAt}
+use Rattle.parts.specs.declared.stage.Stage.{Stage}
+use Rattle.words.specs.Stage.{stage_words}
+use Rattle.words.specs.Slices.{put_stage}
+use Rattle.export.specs.Words.{thread_at}
 use Rattle.export.proofs.writing.put_threads.Statement.{statement}
 use Rattle.export.proofs.writing.put_threads.Tie as tie
 
 abbrev onto : ℕ → Stage → List ℕ → List ℕ
-onto at stage l = putStage l at (stageWords stage)
+onto at stage l = put_stage l at (stage_words stage)
 
 array-copy-out-put-thread-at : tie.Need-array-copy-out-put-thread-at
 array-copy-out-put-thread-at c = search rules
@@ -51,8 +51,8 @@ returns c =
     let g = a.well-formed.1.0 in
     let four : length a.args.t2 ≡ 4 = omega arith in (
       p3.ensures.0
-          ∙ ap (onto 75 (threadAt a.args.t2 3))
-          (p2.ensures.0 ∙ ap (onto 59 (threadAt a.args.t2 2)) (p1.ensures.0 ∙ ap (onto 43 (threadAt a.args.t2 1)) p0.ensures.0)),
+          ∙ ap (onto 75 (thread_at a.args.t2 3))
+          (p2.ensures.0 ∙ ap (onto 59 (thread_at a.args.t2 2)) (p1.ensures.0 ∙ ap (onto 43 (thread_at a.args.t2 1)) p0.ensures.0)),
       (four, p0.ensures.1, p1.ensures.1, p2.ensures.1, p3.ensures.1),
     )
 

@@ -1,7 +1,7 @@
 -- The parts are put one after the other, and the machine is read from them again.
 use Rattle.std.proofs.Common.{◌∙◌, rules, eq-eqb, ne_eqb}
-use Rattle.export.specs.Words.{machinePut}
-use Rattle.export.proofs.WordsLaws.{stored-told}
+use Rattle.export.specs.Words.{machine_put}
+use Rattle.export.proofs.WordsLaws.{stored_told}
 use Rattle.export.proofs.writing.store.Statement.{statement}
 use Rattle.export.proofs.writing.store.Tie as tie
 
@@ -24,7 +24,7 @@ same_length c =
     ∙ c.before.before.before.before.before.before.before.before.before.before.put-counts.auto.0
 
 returns-2 : tie.Need-returns-2
-unfolding machinePut
+unfolding machine_put
 returns-2 c =
     let threads = c.before.before.put-threads in
     let queues = c.before.before.before.before.before.before.put-queues in
@@ -33,7 +33,7 @@ returns-2 c =
     let a = at.before.before.args in (
       rw (eq-eqb _ _ at.if1.false, threads.ensures.0, queues.ensures.0, counts.ensures),
       λ h. rw (threads.ensures.0, queues.ensures.0, counts.ensures)
-          (stored-told a.words.now a.machine h queues.ensures.1 threads.ensures.1),
+          (stored_told a.words.now a.machine h queues.ensures.1 threads.ensures.1),
     )
 
 pub store_spec : {M : Type 1} → statement M

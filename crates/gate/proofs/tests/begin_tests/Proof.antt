@@ -1,7 +1,7 @@
--- Each branch of `begin_tests` is that of `beginTests`, by what its calls ensure.
+-- Each branch of `begin_tests` is that of `begin_tests`, by what its calls ensure.
 use Rattle.std.proofs.Common.{◌≡◌, true, sym, ◌∙◌, rules}
 use borrow.Author.Tests.{not-true, not-false}
-use Rattle.gate.specs.Gate.{namesB}
+use Rattle.gate.specs.Gate.{names_b}
 use Rattle.gate.proofs.tests.begin_tests.Statement.{statement}
 use Rattle.gate.proofs.tests.begin_tests.Tie as tie
 
@@ -11,7 +11,7 @@ names-requires c κs = search rules
 returns : tie.Need-returns
 returns c = rw (← c.before.names.ensures, not-true c.before.names.result c.if1.true)
 
-named : (c : tie.Else1) → namesB c.before.before.args.queues c.before.before.args.operation ≡ true
+named : (c : tie.Else1) → names_b c.before.before.args.queues c.before.before.args.operation ≡ true
 named c = sym c.before.names.ensures ∙ not-false _ c.if1.false
 
 returns-2 : tie.Need-returns-2

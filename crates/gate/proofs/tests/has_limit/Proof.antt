@@ -1,4 +1,4 @@
--- Each arm of `has_limit` is its clause of `limitB`.
+-- Each arm of `has_limit` is its clause of `limit_b`.
 use Rattle.std.proofs.Common.{rules}
 use Rattle.gate.proofs.tests.has_limit.Statement.{statement}
 use Rattle.gate.proofs.tests.has_limit.Tie as tie

@@ -1,4 +1,4 @@
--- Each arm of `names` is its clause of `namesB`.
+-- Each arm of `names` is its clause of `names_b`.
 use Rattle.std.proofs.Common.{rules}
 use Rattle.gate.proofs.tests.names.Statement.{statement}
 use Rattle.gate.proofs.tests.names.Tie as tie

@@ -1,4 +1,4 @@
--- The test is that of `stepTests`.
+-- The test is that of `step_tests`.
 use Rattle.gate.proofs.tests.step_tests.Statement.{statement}
 use Rattle.gate.proofs.tests.step_tests.Tie as tie
 

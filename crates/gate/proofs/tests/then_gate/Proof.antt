@@ -1,4 +1,4 @@
--- Each arm of `then_gate` is its clause of `thenGate`.
+-- Each arm of `then_gate` is its clause of `then_gate`.
 use Rattle.std.proofs.Common.{rules}
 use Rattle.gate.proofs.tests.then_gate.Statement.{statement}
 use Rattle.gate.proofs.tests.then_gate.Tie as tie

@@ -1,8 +1,8 @@
 -- By the mask the index lies in the cell of its bits; otherwise its magnitude is divided, and counted from the last cell where the index is below zero.
 use Rattle.std.proofs.Common.{◌<◌, mod-lt, arith, rules}
 use Rattle.index.specs.Index.{cell_of}
-use Rattle.index.proofs.Signs.{back, not-below, below}
-use Rattle.index.proofs.Cells.{cell-is, masked}
+use Rattle.index.proofs.Signs.{back, not_below, below}
+use Rattle.index.proofs.Cells.{cell_is, masked}
 use Rattle.index.proofs.Index.cell.Statement.{statement}
 use Rattle.index.proofs.Index.cell.Tie as tie
 
@@ -22,7 +22,7 @@ returns-2 c =
     let i = s.args.self in
     let n = s.args.capacity in
     rw
-    (cell-is i n (omega arith))
+    (cell_is i n (omega arith))
     (masked i.0 n c.bits.result s.ranges.capacity.fits c.before.before.if2.true (rw (back i.0 c.before.struct_told.given.0.1) at c.bits.ensures))
 
 mag-requires : tie.Need-mag-requires
@@ -46,7 +46,7 @@ returns-3 c =
     let s = m.before.before.before.before in
     let z = s.args.self.0 in
     let f = m.before.struct-told2.given.0.1 in
-    rw (cell-is s.args.self s.args.capacity (omega arith), m.mag.ensures, back z f, not-below z f c.if3.true)
+    rw (cell_is s.args.self s.args.capacity (omega arith), m.mag.ensures, back z f, not_below z f c.if3.true)
 
 returns-4 : tie.Need-returns-4
 returns-4 c =
@@ -54,7 +54,7 @@ returns-4 c =
     let s = m.before.before.before.before in
     let z = s.args.self.0 in
     let f = m.before.struct-told2.given.0.1 in
-    rw (cell-is s.args.self s.args.capacity (omega arith), m.mag.ensures, back z f, below z f c.if3.false)
+    rw (cell_is s.args.self s.args.capacity (omega arith), m.mag.ensures, back z f, below z f c.if3.false)
 
 pub cell-spec : {M : Type 1} → statement M
 cell-spec =

@@ -1,8 +1,8 @@
 -- The bits of a difference are the wrapped difference of the bits.
 use Rattle.std.proofs.Common.{◌^◌, ◌<◌, arith, rules}
 use lib.Signed.{mag}
-use Rattle.index.specs.Index.{wrap, differenceOf}
-use Rattle.index.proofs.Signs.{back, bits-less, solved}
+use Rattle.index.specs.Index.{wrap, difference_of}
+use Rattle.index.proofs.Signs.{back, bits_less, solved}
 use Rattle.index.proofs.Index.difference.Statement.{statement}
 use Rattle.index.proofs.Index.difference.Tie as tie
 
@@ -19,7 +19,7 @@ signed-requires : tie.Need-signed-requires
 signed-requires c κs = search rules
 
 returns : tie.Need-returns
-unfolding differenceOf wrap
+unfolding difference_of wrap
 returns c =
     let t = c.before.before.before in
     let s = t.before.before in
@@ -30,7 +30,7 @@ returns c =
     let w = c.before.wrapping-sub-u64 in
     let q = c.before.before.bits2 in
     rw
-    (back c.signed.result c.signed.type-inv, c.signed.ensures, solved _ _ _ w.type-inv q.type-inv w.ensures, t.before.bits.ensures, q.ensures, back b f, back a g, bits-less b a f g)
+    (back c.signed.result c.signed.type-inv, c.signed.ensures, solved _ _ _ w.type-inv q.type-inv w.ensures, t.before.bits.ensures, q.ensures, back b f, back a g, bits_less b a f g)
 
 pub difference-spec : {M : Type 1} → statement M
 difference-spec =

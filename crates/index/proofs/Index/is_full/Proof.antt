@@ -1,7 +1,7 @@
 -- Where the difference is not below zero its magnitude is compared with the capacity, and below zero no queue is full.
 use Rattle.std.proofs.Common.{rules}
-use Rattle.index.specs.Index.{fullB}
-use Rattle.index.proofs.Signs.{back, not-below, below}
+use Rattle.index.specs.Index.{full_b}
+use Rattle.index.proofs.Signs.{back, not_below, below}
 use Rattle.index.proofs.Index.is_full.Statement.{statement}
 use Rattle.index.proofs.Index.is_full.Tie as tie
 
@@ -12,13 +12,13 @@ mag-requires : tie.Need-mag-requires
 mag-requires c κs = search rules
 
 returns : tie.Need-returns
-unfolding fullB
+unfolding full_b
 returns c =
     let d = c.before.before.difference in
-    rw (c.mag.ensures, back d.result d.type-inv, ← d.ensures, not-below d.result d.type-inv c.before.if1.true)
+    rw (c.mag.ensures, back d.result d.type-inv, ← d.ensures, not_below d.result d.type-inv c.before.if1.true)
 
 returns-2 : tie.Need-returns-2
-unfolding fullB
+unfolding full_b
 returns-2 c =
     let d = c.before.difference in
     rw (← d.ensures, below d.result d.type-inv c.if1.false)

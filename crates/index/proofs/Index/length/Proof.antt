@@ -1,7 +1,7 @@
 -- A difference that is not below zero is its own magnitude, and below zero the length is 0.
 use Rattle.std.proofs.Common.{rules}
 use Rattle.index.specs.Index.{length_of}
-use Rattle.index.proofs.Signs.{back, not-below, below}
+use Rattle.index.proofs.Signs.{back, not_below, below}
 use Rattle.index.proofs.Index.length.Statement.{statement}
 use Rattle.index.proofs.Index.length.Tie as tie
 
@@ -15,7 +15,7 @@ returns : tie.Need-returns
 unfolding length_of
 returns c =
     let d = c.before.before.difference in
-    rw (c.mag.ensures, back d.result d.type-inv, ← d.ensures, not-below d.result d.type-inv c.before.if1.true)
+    rw (c.mag.ensures, back d.result d.type-inv, ← d.ensures, not_below d.result d.type-inv c.before.if1.true)
 
 returns-2 : tie.Need-returns-2
 unfolding length_of

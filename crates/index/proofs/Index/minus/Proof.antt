@@ -1,7 +1,7 @@
 -- The bits of a difference are the wrapped difference of the bits.
 use Rattle.std.proofs.Common.{rules}
-use Rattle.index.specs.Index.{wrap, minusOf}
-use Rattle.index.proofs.Signs.{back, bits-minus, solved}
+use Rattle.index.specs.Index.{wrap, minus_of}
+use Rattle.index.proofs.Signs.{back, bits_minus, solved}
 use Rattle.index.proofs.Index.minus.Statement.{statement}
 use Rattle.index.proofs.Index.minus.Tie as tie
 
@@ -15,7 +15,7 @@ signed-requires : tie.Need-signed-requires
 signed-requires c κs = search rules
 
 returns : tie.Need-returns
-unfolding minusOf wrap
+unfolding minus_of wrap
 returns c =
     let s = c.before.before.before in
     let i = s.before.args.self.0 in
@@ -24,7 +24,7 @@ returns c =
     let g = s.before.ranges.n.fits in
     let w = c.before.wrapping-sub-u64 in
     rw
-    (back c.signed.result c.signed.type-inv, c.signed.ensures, solved _ _ _ w.type-inv g w.ensures, c.before.before.bits.ensures, back i f, bits-minus i n f g)
+    (back c.signed.result c.signed.type-inv, c.signed.ensures, solved _ _ _ w.type-inv g w.ensures, c.before.before.bits.ensures, back i f, bits_minus i n f g)
 
 pub minus-spec : {M : Type 1} → statement M
 minus-spec = tie.close (tie.spec bits-requires wrapping-sub-u64-requires signed-requires returns)

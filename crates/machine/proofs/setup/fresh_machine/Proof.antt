@@ -1,4 +1,4 @@
--- `fresh_machine` is `freshMachine`, by what its calls ensure.
+-- `fresh_machine` is `fresh_machine`, by what its calls ensure.
 use Rattle.std.proofs.Common.{rules}
 use Rattle.machine.proofs.setup.fresh_machine.Statement.{statement}
 use Rattle.machine.proofs.setup.fresh_machine.Tie as tie

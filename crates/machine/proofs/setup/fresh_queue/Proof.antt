@@ -1,4 +1,4 @@
--- Each branch of `fresh_queue` is that of `freshQueue`, by what its calls ensure.
+-- Each branch of `fresh_queue` is that of `fresh_queue`, by what its calls ensure.
 use Rattle.std.proofs.Common.{rules, le-ltb, lt-ltb}
 use Rattle.machine.proofs.setup.fresh_queue.Statement.{statement}
 use Rattle.machine.proofs.setup.fresh_queue.Tie as tie

@@ -1,4 +1,4 @@
--- `fresh_queues` is `freshQueues`, by what its calls ensure.
+-- `fresh_queues` is `fresh_queues`, by what its calls ensure.
 use Rattle.std.proofs.Common.{rules}
 use Rattle.machine.proofs.setup.fresh_queues.Statement.{statement}
 use Rattle.machine.proofs.setup.fresh_queues.Tie as tie

@@ -1,4 +1,4 @@
--- Each arm is its clause of `numberAfter`.
+-- Each arm is its clause of `number_after`.
 use Rattle.std.proofs.Common.{rules}
 use Rattle.machine.proofs.state.number_after.Statement.{statement}
 use Rattle.machine.proofs.state.number_after.Tie as tie

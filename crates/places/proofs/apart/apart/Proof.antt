@@ -1,4 +1,4 @@
--- `apart` is `apartOf`, by what its calls ensure.
+-- `apart` is `apart_of`, by what its calls ensure.
 use Rattle.std.proofs.Common.{rules}
 use Rattle.places.proofs.apart.apart.Statement.{statement}
 use Rattle.places.proofs.apart.apart.Tie as tie

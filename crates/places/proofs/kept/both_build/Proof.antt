@@ -1,4 +1,4 @@
--- Each arm of `both_build` is its clause of `bothBuild`, by what its calls ensure.
+-- Each arm of `both_build` is its clause of `both_build`, by what its calls ensure.
 use Rattle.std.proofs.Common.{rules}
 use Rattle.places.proofs.kept.both_build.Statement.{statement}
 use Rattle.places.proofs.kept.both_build.Tie as tie

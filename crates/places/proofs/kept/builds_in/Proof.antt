@@ -1,4 +1,4 @@
--- Each arm of `builds_in` is its clause of `buildsIn`.
+-- Each arm of `builds_in` is its clause of `builds_in`.
 use Rattle.std.proofs.Common.{rules}
 use Rattle.places.proofs.kept.builds_in.Statement.{statement}
 use Rattle.places.proofs.kept.builds_in.Tie as tie

@@ -1,4 +1,4 @@
--- Each arm of `keeps_in` is its clause of `keepsIn`.
+-- Each arm of `keeps_in` is its clause of `keeps_in`.
 use Rattle.std.proofs.Common.{rules}
 use Rattle.places.proofs.kept.keeps_in.Statement.{statement}
 use Rattle.places.proofs.kept.keeps_in.Tie as tie

@@ -1,16 +1,16 @@
 -- The invariant: the search from p on finds what the search from 0 finds.
 use Rattle.std.proofs.Common.{◌≡◌, ◌-◌, ◌≤◌, sym, ◌∙◌, arith, rules}
 use borrow.Author.Tests.{not-true, not-false}
-use Rattle.base.specs.Below.{firstNot}
-use Rattle.base.proofs.BelowLaws.{first-here, first-later, first-none}
-use Rattle.std.specs.Queues.{queueIn}
-use Rattle.places.specs.Places.{keptIn, usedOf}
+use Rattle.base.specs.Below.{first_not}
+use Rattle.base.proofs.BelowLaws.{first_here, first_later, first_none}
+use Rattle.parts.specs.Queues.{queue_in}
+use Rattle.places.specs.Places.{kept_in, used_of}
 use Rattle.places.proofs.used.free_place.Statement.{statement}
 use Rattle.places.proofs.used.free_place.Tie as tie
 
 abbrev invariant-loop : tie.invariant-loop
 invariant-loop queues kept count n p₀ p =
-    (p ≤ n) × (firstNot (usedOf (queueIn queues) (keptIn kept) count) (n - p) p ≡ firstNot (usedOf (queueIn queues) (keptIn kept) count) n 0)
+    (p ≤ n) × (first_not (used_of (queue_in queues) (kept_in kept) count) (n - p) p ≡ first_not (used_of (queue_in queues) (kept_in kept) count) n 0)
 
 abbrev decreases-loop : tie.decreases-loop
 decreases-loop queues kept count n p₀ p = n - p
@@ -23,7 +23,7 @@ used-requires c κs = search rules
 
 returns : tie.Need-returns invariant-loop decreases-loop
 returns c =
-    sym (first-here _ _ _ c.before.before.loop-test.true (sym c.before.used.ensures ∙ not-true _ c.if1.true))
+    sym (first_here _ _ _ c.before.before.loop-test.true (sym c.before.used.ensures ∙ not-true _ c.if1.true))
     ∙ c.before.before.before.loop.invariant.1
 
 add-place : tie.Need-overflow-add-place invariant-loop decreases-loop
@@ -35,7 +35,7 @@ loop-less c = omega arith
 loop-again : tie.Need-loop-preserved invariant-loop decreases-loop
 loop-again c = (
   omega arith,
-  sym (first-later _ _ _ c.before.before.loop-test.true (sym c.before.used.ensures ∙ not-false _ c.if1.false))
+  sym (first_later _ _ _ c.before.before.loop-test.true (sym c.before.used.ensures ∙ not-false _ c.if1.false))
       ∙ c.before.before.before.loop.invariant.1,
 )
 
@@ -45,7 +45,7 @@ returns-2 c =
     let a = l.before.args in
     let n = a.places in
     let e : l.loop.place ≡ n = omega arith in
-    sym (first-none (usedOf (queueIn a.queues) (keptIn a.kept) a.count) n) ∙ rw e at l.loop.invariant.1
+    sym (first_none (used_of (queue_in a.queues) (kept_in a.kept) a.count) n) ∙ rw e at l.loop.invariant.1
 
 pub free-place-spec : {M : Type 1} → statement M
 free-place-spec =

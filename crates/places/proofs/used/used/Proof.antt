@@ -1,14 +1,14 @@
 -- The invariant: none of the first i uses the place.
 use Rattle.std.proofs.Common.{◌≡◌, ◌-◌, ◌≤◌, false, sym, ◌∙◌, arith, rules}
-use Rattle.base.specs.Below.{anyBelow}
+use Rattle.base.specs.Below.{any_below}
 use Rattle.base.proofs.BelowLaws.{any_none, any_next, any_at}
-use Rattle.std.specs.Queues.{queueIn}
-use Rattle.places.specs.Places.{keptIn, usedByOf}
+use Rattle.parts.specs.Queues.{queue_in}
+use Rattle.places.specs.Places.{kept_in, used_by_of}
 use Rattle.places.proofs.used.used.Statement.{statement}
 use Rattle.places.proofs.used.used.Tie as tie
 
 abbrev invariant-loop : tie.invariant-loop
-invariant-loop queues kept count place i₀ i = (i ≤ count) × (anyBelow i (usedByOf (queueIn queues) (keptIn kept) place) ≡ false)
+invariant-loop queues kept count place i₀ i = (i ≤ count) × (any_below i (used_by_of (queue_in queues) (kept_in kept) place) ≡ false)
 
 abbrev decreases-loop : tie.decreases-loop
 decreases-loop queues kept count place i₀ i = count - i

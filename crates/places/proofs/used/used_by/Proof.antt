@@ -1,4 +1,4 @@
--- `used_by` is `usedByOf`, by what its calls ensure.
+-- `used_by` is `used_by_of`, by what its calls ensure.
 use Rattle.std.proofs.Common.{rules}
 use Rattle.places.proofs.used.used_by.Statement.{statement}
 use Rattle.places.proofs.used.used_by.Tie as tie

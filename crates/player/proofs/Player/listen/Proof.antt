@@ -1,5 +1,5 @@
 -- By what its calls ensure.
-use Rattle.player.specs.Player.{listenOf}
+use Rattle.player.specs.Player.{listen_of}
 use Rattle.std.proofs.Common.{rules}
 use Rattle.player.proofs.Player.listen.Statement.{statement}
 use Rattle.player.proofs.Player.listen.Tie as tie
@@ -11,7 +11,7 @@ heard-requires : tie.Need-heard-requires
 heard-requires c κs = search rules
 
 returns : tie.Need-returns
-unfolding listenOf
+unfolding listen_of
 returns c = rw (c.heard2.ensures, c.before.before.before.next.ensures)
 
 pub listen-spec : {M : Type 1} → statement M

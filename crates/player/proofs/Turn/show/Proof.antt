@@ -1,6 +1,6 @@
--- Each arm is its clause of `saidText`, by what its calls ensure.
+-- Each arm is its clause of `said_text`, by what its calls ensure.
 use Rattle.std.proofs.Common.{rules}
-use Rattle.writing.proofs.WritingLaws.{put-none}
+use Rattle.writing.proofs.WritingLaws.{put_none}
 use Rattle.player.proofs.Turn.show.Statement.{statement}
 use Rattle.player.proofs.Turn.show.Tie as tie
 
@@ -14,7 +14,7 @@ is-done-requires : tie.Need-is-done-requires
 is-done-requires c κs = search rules
 
 returns : tie.Need-returns
-returns c = rw (c.before.before.enum-told2.given.1, ← c.before.is-done.ensures, c.if1.true, put-none)
+returns c = rw (c.before.before.enum-told2.given.1, ← c.before.is-done.ensures, c.if1.true, put_none)
 
 put-setup-requires : tie.Need-put-setup-requires
 put-setup-requires c κs = search rules
@@ -32,7 +32,7 @@ put-bad-requires : tie.Need-put-bad-requires
 put-bad-requires c κs = search rules
 
 returns-2 : tie.Need-returns-2
-returns-2 c = rw (c.enum_told.given.1, put-none)
+returns-2 c = rw (c.enum_told.given.1, put_none)
 
 same_length : tie.Need-same-length
 same_length c = search rules

@@ -1,6 +1,6 @@
--- Each arm of `byte` is its clause of `heardIn`, by what its calls ensure.
+-- Each arm of `byte` is its clause of `heard_in`, by what its calls ensure.
 use Rattle.std.proofs.Common.{sym, rules}
-use Rattle.reading.proofs.ReadingLaws.{heard-in}
+use Rattle.reading.proofs.ReadingLaws.{heard_in_lem}
 use Rattle.reading.proofs.Reader.byte.Statement.{statement}
 use Rattle.reading.proofs.Reader.byte.Tie as tie
 
@@ -26,13 +26,13 @@ in-comment-requires : tie.Need-in-comment-requires
 in-comment-requires c κs = search rules
 
 returns : tie.Need-returns
-returns c = rw (c.in-space.ensures, c.before.before.before.class_of.ensures) (sym (heard-in _ _ _ c.before.enum_told.given.1))
+returns c = rw (c.in-space.ensures, c.before.before.before.class_of.ensures) (sym (heard_in_lem _ _ _ c.before.enum_told.given.1))
 
 returns-2 : tie.Need-returns-2
-returns-2 c = rw (c.in-number.ensures, c.before.before.before.class_of.ensures) (sym (heard-in _ _ _ c.before.enum-told2.given.1))
+returns-2 c = rw (c.in-number.ensures, c.before.before.before.class_of.ensures) (sym (heard_in_lem _ _ _ c.before.enum-told2.given.1))
 
 returns-3 : tie.Need-returns-3
-returns-3 c = rw (c.in-comment.ensures, c.before.before.before.class_of.ensures) (sym (heard-in _ _ _ c.before.enum-told3.given.1))
+returns-3 c = rw (c.in-comment.ensures, c.before.before.before.class_of.ensures) (sym (heard_in_lem _ _ _ c.before.enum-told3.given.1))
 
 pub byte-spec : {M : Type 1} → statement M
 byte-spec =

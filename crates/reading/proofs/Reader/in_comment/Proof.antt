@@ -1,4 +1,4 @@
--- Each arm of `in_comment` is its clause of `inComment`, by what its calls ensure.
+-- Each arm of `in_comment` is its clause of `in_comment`, by what its calls ensure.
 use Rattle.std.proofs.Common.{rules}
 use Rattle.reading.proofs.Reader.in_comment.Statement.{statement}
 use Rattle.reading.proofs.Reader.in_comment.Tie as tie

@@ -1,4 +1,4 @@
--- Each arm of `in_number` is its clause of `inNumber`, by what its calls ensure.
+-- Each arm of `in_number` is its clause of `in_number`, by what its calls ensure.
 use Rattle.std.proofs.Common.{rules}
 use Rattle.reading.proofs.Reader.in_number.Statement.{statement}
 use Rattle.reading.proofs.Reader.in_number.Tie as tie

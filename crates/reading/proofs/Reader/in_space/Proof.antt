@@ -1,4 +1,4 @@
--- Each arm of `in_space` is its clause of `inSpace`, by what its calls ensure.
+-- Each arm of `in_space` is its clause of `in_space`, by what its calls ensure.
 use Rattle.std.proofs.Common.{rules}
 use Rattle.reading.proofs.Reader.in_space.Statement.{statement}
 use Rattle.reading.proofs.Reader.in_space.Tie as tie

@@ -1,12 +1,12 @@
 -- Before each turn, reading the rest of the part with the reader so far is what reading all of it was.
 use Rattle.std.proofs.Common.{◌≡◌, ◌-◌, ◌<◌, ◌≤◌, length, drop, sym, refl, ◌∙◌, arith, rules}
-use Rattle.reading.specs.Reading.{readFrom}
-use Rattle.reading.proofs.ReadingLaws.{read_all, read-on, read_number, read-wrong}
+use Rattle.reading.specs.Reading.{read_from}
+use Rattle.reading.proofs.ReadingLaws.{read_all, read_on, read_number, read_wrong}
 use Rattle.reading.proofs.Reader.next.Statement.{statement}
 use Rattle.reading.proofs.Reader.next.Tie as tie
 
 abbrev invariant-loop : tie.invariant-loop
-invariant-loop part reader₀ used₀ reader used = (used ≤ length part) × (readFrom reader (drop used part) used ≡ readFrom reader₀ part 0)
+invariant-loop part reader₀ used₀ reader used = (used ≤ length part) × (read_from reader (drop used part) used ≡ read_from reader₀ part 0)
 
 abbrev decreases-loop : tie.decreases-loop
 decreases-loop part reader₀ used₀ reader used = length part - used
@@ -34,7 +34,7 @@ loop-again c =
     let l = c.before.before.before.before.before.before in
     let a = l.before.before.args in
     let h : l.loop.used < length a.part.now = omega arith in
-    (omega arith, read-on l.loop.reader a.part.now l.loop.used _ h c.before.before.before.byte.ensures c.before.enum_told.given.1 ∙ l.loop.invariant.1)
+    (omega arith, read_on l.loop.reader a.part.now l.loop.used _ h c.before.before.before.byte.ensures c.before.enum_told.given.1 ∙ l.loop.invariant.1)
 
 enum-told-2 : tie.Need-enum-told-2 invariant-loop decreases-loop
 enum-told-2 c = search rules
@@ -54,7 +54,7 @@ returns-2 c =
     let l = c.before.before.before.before.before in
     let a = l.before.before.args in
     let h : l.loop.used < length a.part.now = omega arith in
-    read-wrong l.loop.reader a.part.now l.loop.used _ h c.before.before.byte.ensures c.enum-told3.given.1 ∙ l.loop.invariant.1
+    read_wrong l.loop.reader a.part.now l.loop.used _ h c.before.before.byte.ensures c.enum-told3.given.1 ∙ l.loop.invariant.1
 
 returns-3 : tie.Need-returns-3 invariant-loop decreases-loop
 returns-3 c = sym (read_all c.before.loop.reader _ c.before.loop.used c.loop-test.false) ∙ c.before.loop.invariant.1

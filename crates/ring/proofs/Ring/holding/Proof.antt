@@ -2,7 +2,7 @@
 use Rattle.std.proofs.Common.{◌≡◌, ℕ, suc, ◌+◌, ◌-◌, ◌*◌, ◌^◌, ◌<◌, ◌≤◌, Bool, true, false, not, leb, ◌⊎◌, sym, refl, ◌∙◌, inl, inr, pow-suc, arith, rules, leb-false, leb-true}
 use borrow.Author.Tests.{not-true, not-false}
 use Rattle.ring.specs.Capacity.{smallest, largest}
-use Rattle.ring.proofs.CapacityLaws.{smallest-power, least-of, holding-is, holding-over}
+use Rattle.ring.proofs.CapacityLaws.{smallest_power, least_of, holding_is, holding_over}
 use Rattle.ring.proofs.Ring.holding.Statement.{statement}
 use Rattle.ring.proofs.Ring.holding.Tie as tie
 
@@ -23,7 +23,7 @@ holds-requires : tie.Need-holds-requires invariant-loop decreases-loop
 holds-requires c κs = search rules
 
 returns : tie.Need-returns invariant-loop decreases-loop
-returns c = sym (holding-over _ (over _ _ c.before.holds.ensures c.if1.true))
+returns c = sym (holding_over _ (over _ _ c.before.holds.ensures c.if1.true))
 
 add-need : tie.Need-overflow-add-need invariant-loop decreases-loop
 add-need c =
@@ -32,7 +32,7 @@ add-need c =
     omega arith
 
 loop-holds : tie.Need-loop-init invariant-loop decreases-loop
-loop-holds c = (smallest-power.0, smallest-power.1, omega arith, inl refl)
+loop-holds c = (smallest_power.0, smallest_power.1, omega arith, inl refl)
 
 mul-c : tie.Need-overflow-mul-c invariant-loop decreases-loop
 mul-c c =
@@ -54,8 +54,8 @@ returns-2 c =
     let d = c.before.before in
     let i = c.before.loop.invariant in
     sym
-    (holding-is _ _ (fits _ _ d.before.holds.ensures d.if1.false)
-    (least-of _ i.0 _ i.1 i.2 c.loop-test.false i.3))
+    (holding_is _ _ (fits _ _ d.before.holds.ensures d.if1.false)
+    (least_of _ i.0 _ i.1 i.2 c.loop-test.false i.3))
 
 pub holding-spec : {M : Type 1} → statement M
 holding-spec =

@@ -1,7 +1,7 @@
 -- What is more fits in what the length leaves of the capacity exactly where the sum fits in the whole.
 use Rattle.std.proofs.Common.{◌+◌, ◌-◌, ◌<◌, ◌≤◌, sym, ⊎_elim, arith, le-leb}
 use borrow.Author.Tests.{lt-leb}
-use Rattle.base.specs.Tests.{le-or-lt}
+use Rattle.base.specs.Tests.{le_or_lt}
 use Rattle.ring.proofs.Ring.holds.Statement.{statement}
 use Rattle.ring.proofs.Ring.holds.Tie as tie
 
@@ -21,7 +21,7 @@ returns-2 c =
     (λ (h : a.capacity - a.length < a.more).
     let g : a.capacity < a.length + a.more = omega arith in
     rw (lt-leb a.more (a.capacity - a.length) h, lt-leb (a.length + a.more) a.capacity g))
-    (le-or-lt a.more (a.capacity - a.length))
+    (le_or_lt a.more (a.capacity - a.length))
 
 pub holds-spec : {M : Type 1} → statement M
 holds-spec = tie.close (tie.spec returns returns-2)

@@ -1,4 +1,4 @@
--- `next` is `nextNumber`, by what its call ensures.
+-- `next` is `next_number`, by what its call ensures.
 use Rattle.std.proofs.Common.{rules}
 use Rattle.ring.proofs.RingNumber.next.Statement.{statement}
 use Rattle.ring.proofs.RingNumber.next.Tie as tie

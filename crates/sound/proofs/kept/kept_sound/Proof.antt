@@ -1,4 +1,4 @@
--- Each arm of `kept_sound` is its clause of `keptSound`, by what its calls ensure.
+-- Each arm of `kept_sound` is its clause of `kept_sound`, by what its calls ensure.
 use Rattle.std.proofs.Common.{rules}
 use Rattle.sound.proofs.kept.kept_sound.Statement.{statement}
 use Rattle.sound.proofs.kept.kept_sound.Tie as tie
@@ -22,7 +22,7 @@ returns : tie.Need-returns
 returns c = search rules
 
 returns-2 : tie.Need-returns-2
-returns-2 c = rw (c.before.before.kept.given.1, c.ring-sound.ensures)
+returns-2 c = rw (c.before.before.kept.given.1, c.ring_sound_lem.ensures)
 
 returns-3 : tie.Need-returns-3
 returns-3 c = rw (c.before.before.kept2.given.1, c.ring-sound2.ensures)

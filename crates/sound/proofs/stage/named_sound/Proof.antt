@@ -2,10 +2,10 @@
 use Rattle.std.proofs.Common.{◌≡◌, ℕ, true, List, [], ◌∷◌, refl, rules}
 use denote.Enum.Declared.{tag_of}
 use types.Run.{OneOf, miss}
-use Rattle.std.specs.contracts.stage.Stage.{the_type}
-use Rattle.std.specs.declared.stage.Stage.{Stage}
-use Rattle.std.specs.declared.stage.Stage.TheVariants.{Idle, Push, Pop, Steal, Length, OwnBatch, BatchSource, BatchOwn}
-use Rattle.sound.specs.Sound.{namedSound}
+use Rattle.parts.specs.contracts.stage.Stage.{the_type}
+use Rattle.parts.specs.declared.stage.Stage.{Stage}
+use Rattle.parts.specs.declared.stage.Stage.TheVariants.{Idle, Push, Pop, Steal, Length, OwnBatch, BatchSource, BatchOwn}
+use Rattle.sound.specs.Sound.{named_sound}
 use Rattle.sound.proofs.stage.named_sound.Statement.{statement}
 use Rattle.sound.proofs.stage.named_sound.Tie as tie
 
@@ -36,7 +36,7 @@ returns-4 c = rw c.before.stage4.given.1
 abbrev the_rest : List ℕ
 the_rest = 0 ∷ 1 ∷ 2 ∷ 5 ∷ []
 
-unnamed : (queues : ℕ) (s : Stage) → OneOf the_rest (tag_of the_type s) → true ≡ namedSound queues s
+unnamed : (queues : ℕ) (s : Stage) → OneOf the_rest (tag_of the_type s) → true ≡ named_sound queues s
 unnamed queues Idle h = refl
 unnamed queues (Push job at) h = refl
 unnamed queues (Pop w at) h = refl

@@ -2,10 +2,10 @@
 use Rattle.std.proofs.Common.{◌≡◌, ℕ, true, List, [], ◌∷◌, refl, rules}
 use denote.Enum.Declared.{tag_of}
 use types.Run.{OneOf, miss}
-use Rattle.std.specs.contracts.stage.Stage.{the_type}
-use Rattle.std.specs.declared.stage.Stage.{Stage}
-use Rattle.std.specs.declared.stage.Stage.TheVariants.{Idle, Push, Pop, Steal, Length, OwnBatch, BatchSource, BatchOwn}
-use Rattle.sound.specs.Sound.{numbersSound}
+use Rattle.parts.specs.contracts.stage.Stage.{the_type}
+use Rattle.parts.specs.declared.stage.Stage.{Stage}
+use Rattle.parts.specs.declared.stage.Stage.TheVariants.{Idle, Push, Pop, Steal, Length, OwnBatch, BatchSource, BatchOwn}
+use Rattle.sound.specs.Sound.{numbers_sound}
 use Rattle.sound.proofs.stage.numbers_sound.Statement.{statement}
 use Rattle.sound.proofs.stage.numbers_sound.Tie as tie
 
@@ -34,21 +34,21 @@ own-sound-requires : tie.Need-own-sound-requires
 own-sound-requires c κs = search rules
 
 returns : tie.Need-returns
-returns c = rw (c.before.before.stage.given.1, c.push-sound.ensures)
+returns c = rw (c.before.before.stage.given.1, c.push_sound_lem.ensures)
 
 returns-2 : tie.Need-returns-2
 returns-2 c = rw (c.before.before.stage2.given.1, c.pop-sound.ensures)
 
 returns-3 : tie.Need-returns-3
-returns-3 c = rw (c.before.before.stage3.given.1, c.source_sound.ensures)
+returns-3 c = rw (c.before.before.stage3.given.1, c.source_sound_lem.ensures)
 
 returns-4 : tie.Need-returns-4
-returns-4 c = rw (c.before.before.stage4.given.1, c.own-sound.ensures)
+returns-4 c = rw (c.before.before.stage4.given.1, c.own_sound_lem.ensures)
 
 abbrev the_rest : List ℕ
 the_rest = 0 ∷ 3 ∷ 4 ∷ 5 ∷ []
 
-unnumbered : (s : Stage) → OneOf the_rest (tag_of the_type s) → true ≡ numbersSound s
+unnumbered : (s : Stage) → OneOf the_rest (tag_of the_type s) → true ≡ numbers_sound s
 unnumbered Idle h = refl
 unnumbered (Push job at) h = absurd (miss the_rest 1 tt h)
 unnumbered (Pop w at) h = absurd (miss the_rest 2 tt h)

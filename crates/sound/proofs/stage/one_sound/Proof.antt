@@ -1,4 +1,4 @@
--- Each arm of `one_sound` is its clause of `oneSound`, by what its calls ensure.
+-- Each arm of `one_sound` is its clause of `one_sound`, by what its calls ensure.
 use Rattle.std.proofs.Common.{rules}
 use Rattle.sound.proofs.stage.one_sound.Statement.{statement}
 use Rattle.sound.proofs.stage.one_sound.Tie as tie
@@ -34,7 +34,7 @@ haul-sound-requires-5 : tie.Need-haul-sound-requires-5
 haul-sound-requires-5 c κs = search rules
 
 returns : tie.Need-returns
-returns c = rw (c.before.enum_told.given.1, c.haul-sound.ensures)
+returns c = rw (c.before.enum_told.given.1, c.haul_sound_lem.ensures)
 
 returns-2 : tie.Need-returns-2
 returns-2 c = rw (c.before.before.at.given.1, c.haul-sound2.ensures)

@@ -1,4 +1,4 @@
--- Each arm of `own_sound` is its clause of `ownSound`, by what its calls ensure.
+-- Each arm of `own_sound` is its clause of `own_sound`, by what its calls ensure.
 use Rattle.std.proofs.Common.{rules}
 use Rattle.sound.proofs.stage.own_sound.Statement.{statement}
 use Rattle.sound.proofs.stage.own_sound.Tie as tie

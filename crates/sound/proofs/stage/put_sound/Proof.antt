@@ -1,4 +1,4 @@
--- Each arm of `put_sound` is its clause of `putSound`, by what its calls ensure.
+-- Each arm of `put_sound` is its clause of `put_sound`, by what its calls ensure.
 use Rattle.std.proofs.Common.{rules}
 use Rattle.sound.proofs.stage.put_sound.Statement.{statement}
 use Rattle.sound.proofs.stage.put_sound.Tie as tie
@@ -28,7 +28,7 @@ haul-sound-requires-4 : tie.Need-haul-sound-requires-4
 haul-sound-requires-4 c κs = search rules
 
 returns : tie.Need-returns
-returns c = rw (c.before.before.at.given.1, c.haul-sound.ensures)
+returns c = rw (c.before.before.at.given.1, c.haul_sound_lem.ensures)
 
 returns-2 : tie.Need-returns-2
 returns-2 c = rw (c.before.before.at2.given.1, c.haul-sound2.ensures)

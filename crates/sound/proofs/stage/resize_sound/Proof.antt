@@ -1,4 +1,4 @@
--- Each arm of `resize_sound` is its clause of `resizeSound`, by what its calls ensure.
+-- Each arm of `resize_sound` is its clause of `resize_sound`, by what its calls ensure.
 use Rattle.std.proofs.Common.{rules}
 use Rattle.sound.proofs.stage.resize_sound.Statement.{statement}
 use Rattle.sound.proofs.stage.resize_sound.Tie as tie

@@ -1,4 +1,4 @@
--- `stage_sound` is `stageSound`, by what its calls ensure.
+-- `stage_sound` is `stage_sound`, by what its calls ensure.
 use Rattle.std.proofs.Common.{rules}
 use Rattle.sound.proofs.stage.stage_sound.Statement.{statement}
 use Rattle.sound.proofs.stage.stage_sound.Tie as tie
@@ -16,7 +16,7 @@ numbers-sound-requires : tie.Need-numbers-sound-requires
 numbers-sound-requires c κs = search rules
 
 returns : tie.Need-returns
-returns c = rw (c.numbers-sound.ensures, c.before.kept-sound.ensures, c.before.before.ring-kept.ensures, c.before.before.before.named-sound.ensures)
+returns c = rw (c.numbers_sound_lem.ensures, c.before.kept_sound_lem.ensures, c.before.before.ring-kept.ensures, c.before.before.before.named_sound_lem.ensures)
 
 pub stage-sound-spec : {M : Type 1} → statement M
 stage-sound-spec =

@@ -1,4 +1,4 @@
--- Each arm of `take_sound` is its clause of `takeSound`, by what its calls ensure.
+-- Each arm of `take_sound` is its clause of `take_sound`, by what its calls ensure.
 use Rattle.std.proofs.Common.{rules}
 use Rattle.sound.proofs.stage.take_sound.Statement.{statement}
 use Rattle.sound.proofs.stage.take_sound.Tie as tie
@@ -22,7 +22,7 @@ one-sound-requires : tie.Need-one-sound-requires
 one-sound-requires c κs = search rules
 
 returns : tie.Need-returns
-returns c = rw (c.before.enum_told.given.1, c.haul-sound.ensures)
+returns c = rw (c.before.enum_told.given.1, c.haul_sound_lem.ensures)
 
 returns-2 : tie.Need-returns-2
 returns-2 c = rw (c.before.before.at.given.1, c.All-sound.ensures)

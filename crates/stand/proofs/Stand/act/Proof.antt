@@ -1,5 +1,5 @@
 -- By what its calls ensure, in the part of the pool that is lent.
-use Rattle.stand.proofs.LentLaws.{lent-within, lent_length}
+use Rattle.stand.proofs.LentLaws.{lent_within, lent_length}
 use Rattle.std.proofs.Common.{rules}
 use Rattle.stand.proofs.Stand.act.Statement.{statement}
 use Rattle.stand.proofs.Stand.act.Tie as tie
@@ -10,12 +10,12 @@ lent-requires c κs = search rules
 slice-relend-prefix-ask : tie.Need-slice-relend-prefix-ask
 slice-relend-prefix-ask c =
     let a = c.before.before.before.before.before.args in
-    rw c.lent.ensures (lent-within a.turn.player a.pool.now)
+    rw c.lent.ensures (lent_within a.turn.player a.pool.now)
 
 slice-aggregate-ask : tie.Need-slice-aggregate-ask
 slice-aggregate-ask c =
     let a = c.before.before.before.before.before.before.args in
-    lent_length c.before.lent.result a.pool.now (rw c.before.lent.ensures (lent-within a.turn.player a.pool.now))
+    lent_length c.before.lent.result a.pool.now (rw c.before.lent.ensures (lent_within a.turn.player a.pool.now))
 
 ask-requires : tie.Need-ask-requires
 ask-requires c κs = search rules

@@ -1,7 +1,7 @@
 -- The setup is refused, which leaves the machine of zeros.
 use Rattle.std.proofs.Common.{◌≡◌, ap, rules}
 use Rattle.machine.specs.State.{After}
-use Rattle.machine.specs.Setup.{zeroMachine, setupOf}
+use Rattle.machine.specs.Setup.{zero_machine, setup_of}
 use Rattle.stand.proofs.Stand.new.Statement.{statement}
 use Rattle.stand.proofs.Stand.new.Tie as tie
 
@@ -18,9 +18,9 @@ standing-requires : tie.Need-standing-requires
 standing-requires c κs = search rules
 
 returns : tie.Need-returns
-unfolding setupOf
+unfolding setup_of
 returns c =
-    let e : c.before.before.setup.result.machine ≡ zeroMachine = ap (λ (a : After). a.called.machine) c.before.before.setup.ensures in
+    let e : c.before.before.setup.result.machine ≡ zero_machine = ap (λ (a : After). a.called.machine) c.before.before.setup.ensures in
     rw (c.standing.ensures, c.before.new.ensures, e)
 
 pub new_spec : {M : Type 1} → statement M

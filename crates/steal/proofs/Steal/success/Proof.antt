@@ -1,4 +1,4 @@
--- Each arm returns what `successOf` gives at its answer; in the middle one the answer is the one that the pattern bound.
+-- Each arm returns what `success_of` gives at its answer; in the middle one the answer is the one that the pattern bound.
 use borrow.Author.Rules.{rules}
 use Rattle.steal.proofs.Steal.success.Statement.{statement}
 use Rattle.steal.proofs.Steal.success.Tie as tie

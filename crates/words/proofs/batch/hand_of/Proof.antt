@@ -1,4 +1,4 @@
--- Each return of `hand_of` stands behind the tests by which `handOf` picks.
+-- Each return of `hand_of` stands behind the tests by which `hand_of` picks.
 use Rattle.std.proofs.Common.{eq-eqb, ne_eqb}
 use Rattle.words.proofs.batch.hand_of.Statement.{statement}
 use Rattle.words.proofs.batch.hand_of.Tie as tie

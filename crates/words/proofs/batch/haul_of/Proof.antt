@@ -21,7 +21,7 @@ returns c =
       c.hand_of.ensures,
       c.before.index-of2.ensures,
       c.before.before.index_of.ensures,
-      c.before.before.before.ring_of.ensures,
+      c.before.before.before.ring_of_lem.ensures,
     )
 
 pub haul-of-spec : {M : Type 1} → statement M

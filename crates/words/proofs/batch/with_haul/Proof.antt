@@ -1,6 +1,6 @@
 -- Field by field, by what the calls ensure; a hand holds what its two words tell.
 use Rattle.std.proofs.Common.{rules}
-use Rattle.words.proofs.Steps.{hand-told}
+use Rattle.words.proofs.Steps.{hand_told}
 use Rattle.words.proofs.batch.with_haul.Statement.{statement}
 use Rattle.words.proofs.batch.with_haul.Tie as tie
 
@@ -22,8 +22,8 @@ with-ring-requires c κs = search rules
 returns : tie.Need-returns
 returns c =
     rw
-    (c.with-ring.ensures, c.before.held_word.ensures, c.before.before.hand_word.ensures)
-    (rw (c.before.before.before.index-word2.ensures.0, c.before.before.before.before.index-IsWord.ensures.0), rw (hand-told _, c.before.before.before.index-word2.ensures.1, c.before.before.before.before.index-IsWord.ensures.1))
+    (c.with_ring.ensures, c.before.held_word.ensures, c.before.before.hand_word.ensures)
+    (rw (c.before.before.before.index-word2.ensures.0, c.before.before.before.before.index-IsWord.ensures.0), rw (hand_told _, c.before.before.before.index-word2.ensures.1, c.before.before.before.before.index-IsWord.ensures.1))
 
 pub with-haul-spec : {M : Type 1} → statement M
 with-haul-spec =

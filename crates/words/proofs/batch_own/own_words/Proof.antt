@@ -1,8 +1,8 @@
 -- Each arm of `own_words` is its clause, and the steps are told apart by their numbers.
 use Rattle.std.proofs.Common.{refl, ap, rules}
-use Rattle.std.specs.declared.stage.OwnStage.TheVariants.{LoadBack}
-use Rattle.words.specs.Batch.{wantedOf, haulOf}
-use Rattle.words.specs.BatchOwn.{reserveOf, put_of}
+use Rattle.parts.specs.declared.stage.OwnStage.TheVariants.{LoadBack}
+use Rattle.words.specs.Batch.{wanted_of, haul_of}
+use Rattle.words.specs.BatchOwn.{reserve_of, put_of}
 use Rattle.words.proofs.Steps.{tells, own-reserve, own_put}
 use Rattle.words.proofs.batch_own.own_words.Statement.{statement}
 use Rattle.words.proofs.batch_own.own_words.Tie as tie
@@ -20,7 +20,7 @@ returns : tie.Need-returns
 returns c =
     rw
     (c.before.before.before.at.given.1, c.with-wanted.ensures.0, c.before.reserve-words.ensures.0)
-    (refl, own-reserve _ _ (tells wantedOf c.with-wanted.ensures) (tells reserveOf c.before.reserve-words.ensures))
+    (refl, own-reserve _ _ (tells wanted_of c.with-wanted.ensures) (tells reserve_of c.before.reserve-words.ensures))
 
 enum-known-at-2 : tie.Need-enum-known-at-2
 enum-known-at-2 c = search rules
@@ -35,7 +35,7 @@ returns-2 : tie.Need-returns-2
 returns-2 c =
     rw
     (c.before.before.before.at2.given.1, c.with-wanted2.ensures.0, c.before.bare.ensures)
-    (refl, ap LoadBack (tells wantedOf c.with-wanted2.ensures))
+    (refl, ap LoadBack (tells wanted_of c.with-wanted2.ensures))
 
 enum-known-at-3 : tie.Need-enum-known-at-3
 enum-known-at-3 c = search rules
@@ -50,7 +50,7 @@ returns-3 : tie.Need-returns-3
 returns-3 c =
     rw
     (c.before.before.before.at3.given.1, c.with-haul.ensures.0, c.before.put-words.ensures.0)
-    (refl, own_put _ _ (tells haulOf c.with-haul.ensures) (tells put_of c.before.put-words.ensures))
+    (refl, own_put _ _ (tells haul_of c.with-haul.ensures) (tells put_of c.before.put-words.ensures))
 
 pub own-words-spec : {M : Type 1} → statement M
 own-words-spec =

@@ -1,7 +1,7 @@
 -- Each arm of `put_words` is its clause, and the steps are told apart by their numbers.
 use Rattle.std.proofs.Common.{refl, rules}
-use Rattle.words.specs.BatchOwn.{swapOf}
-use Rattle.words.proofs.Steps.{tells, put-swap}
+use Rattle.words.specs.BatchOwn.{swap_of}
+use Rattle.words.proofs.Steps.{tells, put_swap}
 use Rattle.words.proofs.batch_own.put_words.Statement.{statement}
 use Rattle.words.proofs.batch_own.put_words.Tie as tie
 
@@ -27,7 +27,7 @@ swap-words-requires : tie.Need-swap-words-requires
 swap-words-requires c κs = search rules
 
 returns-3 : tie.Need-returns-3
-returns-3 c = rw (c.before.before.at3.given.1, c.swap-words.ensures.0) (refl, put-swap _ _ (tells swapOf c.swap-words.ensures))
+returns-3 c = rw (c.before.before.at3.given.1, c.swap-words.ensures.0) (refl, put_swap _ _ (tells swap_of c.swap-words.ensures))
 
 enum_told : tie.Need-enum-told
 enum_told c = search rules

@@ -1,4 +1,4 @@
--- Each return of `reserve_of` stands behind the tests by which `reserveOf` picks.
+-- Each return of `reserve_of` stands behind the tests by which `reserve_of` picks.
 use Rattle.std.proofs.Common.{rules, eq-eqb, ne_eqb}
 use Rattle.words.proofs.batch_own.reserve_of.Statement.{statement}
 use Rattle.words.proofs.batch_own.reserve_of.Tie as tie

@@ -1,7 +1,7 @@
 -- Each arm of `reserve_words` is its clause, and the steps are told apart by their numbers.
 use Rattle.std.proofs.Common.{refl, rules}
-use Rattle.words.specs.Resize.{resizeOf}
-use Rattle.words.proofs.Steps.{tells, reserve-resize}
+use Rattle.words.specs.Resize.{resize_of}
+use Rattle.words.proofs.Steps.{tells, reserve_resize}
 use Rattle.words.proofs.batch_own.reserve_words.Statement.{statement}
 use Rattle.words.proofs.batch_own.reserve_words.Tie as tie
 
@@ -36,7 +36,7 @@ returns-3 : tie.Need-returns-3
 returns-3 c =
     rw
     (c.before.before.at2.given.1, c.resize-words.ensures.0)
-    (refl, reserve-resize _ (tells resizeOf c.resize-words.ensures))
+    (refl, reserve_resize _ (tells resize_of c.resize-words.ensures))
 
 pub reserve-words-spec : {M : Type 1} → statement M
 reserve-words-spec =

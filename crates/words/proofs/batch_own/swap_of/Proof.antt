@@ -1,4 +1,4 @@
--- Each return of `swap_of` stands behind the tests by which `swapOf` picks.
+-- Each return of `swap_of` stands behind the tests by which `swap_of` picks.
 use Rattle.std.proofs.Common.{eq-eqb, ne_eqb}
 use Rattle.words.proofs.batch_own.swap_of.Statement.{statement}
 use Rattle.words.proofs.batch_own.swap_of.Tie as tie

@@ -1,7 +1,7 @@
 -- Each arm of `source_words` is its clause, and the steps are told apart by their numbers.
 use Rattle.std.proofs.Common.{refl, rules}
 use Rattle.slots.specs.Slots.{index_of}
-use Rattle.words.specs.Batch.{wantedOf, haulOf}
+use Rattle.words.specs.Batch.{wanted_of, haul_of}
 use Rattle.words.specs.BatchSource.{take_of}
 use Rattle.words.proofs.Steps.{tells, source-load-ring, source-take}
 use Rattle.words.proofs.batch_source.source_words.Statement.{statement}
@@ -50,7 +50,7 @@ returns-3 : tie.Need-returns-3
 returns-3 c =
     rw
     (c.before.before.before.at3.given.1, c.with-wanted.ensures.0, c.before.index-word2.ensures.0, c.before.before.before.before.before.bare.ensures)
-    (refl, source-load-ring _ _ (tells wantedOf c.with-wanted.ensures) (tells index_of c.before.index-word2.ensures))
+    (refl, source-load-ring _ _ (tells wanted_of c.with-wanted.ensures) (tells index_of c.before.index-word2.ensures))
 
 enum-known-at-4 : tie.Need-enum-known-at-4
 enum-known-at-4 c = search rules
@@ -65,7 +65,7 @@ returns-4 : tie.Need-returns-4
 returns-4 c =
     rw
     (c.before.before.before.at4.given.1, c.with-haul.ensures.0, c.before.take_words.ensures.0)
-    (refl, source-take _ _ (tells haulOf c.with-haul.ensures) (tells take_of c.before.take_words.ensures))
+    (refl, source-take _ _ (tells haul_of c.with-haul.ensures) (tells take_of c.before.take_words.ensures))
 
 pub source-words-spec : {M : Type 1} → statement M
 source-words-spec =

@@ -1,7 +1,7 @@
 -- Each arm of `take_words` is its clause, and the steps are told apart by their numbers.
 use Rattle.std.proofs.Common.{refl, rules}
 use Rattle.words.specs.BatchSource.{all_of, one_of}
-use Rattle.words.proofs.Steps.{tells, take_all, take-one}
+use Rattle.words.proofs.Steps.{tells, take_all, take_one}
 use Rattle.words.proofs.batch_source.take_words.Statement.{statement}
 use Rattle.words.proofs.batch_source.take_words.Tie as tie
 
@@ -30,7 +30,7 @@ one-words-requires : tie.Need-one-words-requires
 one-words-requires c κs = search rules
 
 returns-3 : tie.Need-returns-3
-returns-3 c = rw (c.before.before.at2.given.1, c.one-words.ensures.0) (refl, take-one _ (tells one_of c.one-words.ensures))
+returns-3 c = rw (c.before.before.at2.given.1, c.one-words.ensures.0) (refl, take_one _ (tells one_of c.one-words.ensures))
 
 pub take-words-spec : {M : Type 1} → statement M
 take-words-spec =

@@ -1,4 +1,4 @@
--- Each return of `fifo_of` stands behind the tests by which `fifoOf` picks.
+-- Each return of `fifo_of` stands behind the tests by which `fifo_of` picks.
 use Rattle.std.proofs.Common.{rules, eq-eqb, ne_eqb}
 use Rattle.words.proofs.pop.fifo_of.Statement.{statement}
 use Rattle.words.proofs.pop.fifo_of.Tie as tie

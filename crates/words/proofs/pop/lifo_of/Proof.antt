@@ -1,4 +1,4 @@
--- Each return of `lifo_of` stands behind the tests by which `lifoOf` picks.
+-- Each return of `lifo_of` stands behind the tests by which `lifo_of` picks.
 use Rattle.std.proofs.Common.{rules, eq-eqb, ne_eqb}
 use Rattle.words.proofs.pop.lifo_of.Statement.{statement}
 use Rattle.words.proofs.pop.lifo_of.Tie as tie

@@ -1,8 +1,8 @@
 -- Each arm of `pop_words` is its clause, and the steps are told apart by their numbers.
 use Rattle.std.proofs.Common.{refl, rules}
-use Rattle.words.specs.Resize.{resizeOf}
-use Rattle.words.specs.Pop.{fifoOf, lifoOf}
-use Rattle.words.proofs.Steps.{tells, pop-fifo, pop-lifo, pop-shrink}
+use Rattle.words.specs.Resize.{resize_of}
+use Rattle.words.specs.Pop.{fifo_of, lifo_of}
+use Rattle.words.proofs.Steps.{tells, pop_fifo, pop_lifo, pop_shrink}
 use Rattle.words.proofs.pop.pop_words.Statement.{statement}
 use Rattle.words.proofs.pop.pop_words.Tie as tie
 
@@ -13,7 +13,7 @@ fifo-words-requires : tie.Need-fifo-words-requires
 fifo-words-requires c κs = search rules
 
 returns : tie.Need-returns
-returns c = rw (c.before.before.at.given.1, c.fifo-words.ensures.0) (refl, pop-fifo _ (tells fifoOf c.fifo-words.ensures))
+returns c = rw (c.before.before.at.given.1, c.fifo-words.ensures.0) (refl, pop_fifo _ (tells fifo_of c.fifo-words.ensures))
 
 enum-known-at-2 : tie.Need-enum-known-at-2
 enum-known-at-2 c = search rules
@@ -22,7 +22,7 @@ lifo-words-requires : tie.Need-lifo-words-requires
 lifo-words-requires c κs = search rules
 
 returns-2 : tie.Need-returns-2
-returns-2 c = rw (c.before.before.at2.given.1, c.lifo-words.ensures.0) (refl, pop-lifo _ (tells lifoOf c.lifo-words.ensures))
+returns-2 c = rw (c.before.before.at2.given.1, c.lifo-words.ensures.0) (refl, pop_lifo _ (tells lifo_of c.lifo-words.ensures))
 
 enum-known-at-3 : tie.Need-enum-known-at-3
 enum-known-at-3 c = search rules
@@ -34,7 +34,7 @@ returns-3 : tie.Need-returns-3
 returns-3 c =
     rw
     (c.before.before.at3.given.1, c.resize-words.ensures.0)
-    (refl, pop-shrink _ _ (tells resizeOf c.resize-words.ensures))
+    (refl, pop_shrink _ _ (tells resize_of c.resize-words.ensures))
 
 pub pop-words-spec : {M : Type 1} → statement M
 pop-words-spec =

@@ -1,4 +1,4 @@
--- Each return of `popper_of` stands behind the tests by which `popperOf` picks.
+-- Each return of `popper_of` stands behind the tests by which `popper_of` picks.
 use Rattle.std.proofs.Common.{eq-eqb, ne_eqb}
 use Rattle.words.proofs.pop.popper_of.Statement.{statement}
 use Rattle.words.proofs.pop.popper_of.Tie as tie

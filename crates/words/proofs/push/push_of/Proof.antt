@@ -1,4 +1,4 @@
--- Each return of `push_of` stands behind the tests by which `pushOf` picks.
+-- Each return of `push_of` stands behind the tests by which `push_of` picks.
 use Rattle.std.proofs.Common.{rules, eq-eqb, ne_eqb}
 use Rattle.words.proofs.push.push_of.Statement.{statement}
 use Rattle.words.proofs.push.push_of.Tie as tie

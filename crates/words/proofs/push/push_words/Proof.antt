@@ -1,8 +1,8 @@
 -- Each arm of `push_words` is its clause, and the steps are told apart by their numbers.
 use Rattle.std.proofs.Common.{refl, rules}
 use Rattle.slots.specs.Slots.{index_of}
-use Rattle.words.specs.Resize.{resizeOf}
-use Rattle.words.proofs.Steps.{tells, push-resize}
+use Rattle.words.specs.Resize.{resize_of}
+use Rattle.words.proofs.Steps.{tells, push_resize}
 use Rattle.words.proofs.push.push_words.Statement.{statement}
 use Rattle.words.proofs.push.push_words.Tie as tie
 
@@ -40,7 +40,7 @@ returns-3 : tie.Need-returns-3
 returns-3 c =
     rw
     (c.before.before.before.at2.given.1, c.before.resize-words.ensures.0, c.index-word2.ensures.0)
-    (refl, push-resize _ _ (tells index_of c.index-word2.ensures) (tells resizeOf c.before.resize-words.ensures))
+    (refl, push_resize _ _ (tells index_of c.index-word2.ensures) (tells resize_of c.before.resize-words.ensures))
 
 enum-known-at-3 : tie.Need-enum-known-at-3
 enum-known-at-3 c = search rules

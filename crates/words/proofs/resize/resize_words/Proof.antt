@@ -40,7 +40,7 @@ returns-3 : tie.Need-returns-3
 returns-3 c =
     rw (
       c.before.before.before.before.at3.given.1,
-      c.with-ring.ensures,
+      c.with_ring.ensures,
       c.before.before.before.before.before.before.bare.ensures,
     )
     (rw (c.before.index-word3.ensures.0, c.before.before.index-word2.ensures.0), rw (c.before.index-word3.ensures.1, c.before.before.index-word2.ensures.1))

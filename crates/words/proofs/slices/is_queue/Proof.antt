@@ -1,7 +1,7 @@
 -- By what its calls ensure.
 use Rattle.std.proofs.Common.{ap, ◌∙◌, rules}
-use Rattle.slots.specs.Queue.{queueWords, sameQueueB}
-use Rattle.words.specs.Slices.{queueB}
+use Rattle.slots.specs.Queue.{queue_words, same_queue_b}
+use Rattle.words.specs.Slices.{queue_b}
 use Rattle.words.proofs.slices.is_queue.Statement.{statement}
 use Rattle.words.proofs.slices.is_queue.Tie as tie
 
@@ -21,8 +21,8 @@ returns : tie.Need-returns
 returns c =
     let w = c.before.before.before.queue-in in
     c.same_queue.ensures
-    ∙ ap (sameQueueB w.result) (c.before.queue-words.ensures.0 ∙ ap queueWords c.before.before.queue-of.ensures)
-    ∙ ap queueB w.ensures
+    ∙ ap (same_queue_b w.result) (c.before.queue-words.ensures.0 ∙ ap queue_words c.before.before.queue-of.ensures)
+    ∙ ap queue_b w.ensures
 
 pub is-queue-spec : {M : Type 1} → statement M
 is-queue-spec =

@@ -1,8 +1,8 @@
 -- By what its calls ensure.
 use Rattle.std.proofs.Common.{ap, ◌∙◌, rules}
-use Rattle.slots.specs.Slots.{sameStageB}
-use Rattle.words.specs.Stage.{stageWords}
-use Rattle.words.specs.Slices.{stageB}
+use Rattle.slots.specs.Slots.{same_stage_b}
+use Rattle.words.specs.Stage.{stage_words}
+use Rattle.words.specs.Slices.{stage_b}
 use Rattle.words.proofs.slices.is_stage.Statement.{statement}
 use Rattle.words.proofs.slices.is_stage.Tie as tie
 
@@ -21,9 +21,9 @@ same-stage-requires c κs = search rules
 returns : tie.Need-returns
 returns c =
     let w = c.before.before.before.stage-in in
-    c.same-stage.ensures
-    ∙ ap (sameStageB w.result) (c.before.stage-words.ensures.0 ∙ ap stageWords c.before.before.stage-of.ensures)
-    ∙ ap stageB w.ensures
+    c.same_stage.ensures
+    ∙ ap (same_stage_b w.result) (c.before.stage-words.ensures.0 ∙ ap stage_words c.before.before.stage-of.ensures)
+    ∙ ap stage_b w.ensures
 
 pub is-stage-spec : {M : Type 1} → statement M
 is-stage-spec =

@@ -1,4 +1,4 @@
--- Each return stands behind the tests by which `stageOf` picks its operation.
+-- Each return stands behind the tests by which `stage_of` picks its operation.
 use Rattle.std.proofs.Common.{rules, eq-eqb, ne_eqb}
 use Rattle.words.proofs.stage.stage_of.Statement.{statement}
 use Rattle.words.proofs.stage.stage_of.Tie as tie

@@ -1,6 +1,6 @@
 -- Each arm is its clause; its operation is known by the number, and its step by what the words of the step tell.
 use Rattle.std.proofs.Common.{refl, ap, rules}
-use Rattle.std.specs.declared.stage.Stage.TheVariants.{Push, Pop, Steal, Length, OwnBatch, BatchSource, BatchOwn}
+use Rattle.parts.specs.declared.stage.Stage.TheVariants.{Push, Pop, Steal, Length, OwnBatch, BatchSource, BatchOwn}
 use Rattle.words.proofs.stage.stage_words.Statement.{statement}
 use Rattle.words.proofs.stage.stage_words.Tie as tie
 
@@ -121,7 +121,7 @@ returns-8 : tie.Need-returns-8
 returns-8 c =
     rw
     (c.before.before.before.stage7.given.1, c.with-operation7.ensures)
-    (rw c.before.own-words.ensures.0, ap (BatchOwn c.before.before.before.stage7.given.0.0) c.before.own-words.ensures.1)
+    (rw c.before.own_words.ensures.0, ap (BatchOwn c.before.before.before.stage7.given.0.0) c.before.own_words.ensures.1)
 
 pub stage-words-spec : {M : Type 1} → statement M
 stage-words-spec =

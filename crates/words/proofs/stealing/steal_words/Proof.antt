@@ -48,7 +48,7 @@ with-ring-requires c κs = search rules
 returns-4 : tie.Need-returns-4
 returns-4 c =
     rw
-    (c.before.before.before.at3.given.1, c.with-ring.ensures, c.before.before.before.before.before.bare.ensures)
+    (c.before.before.before.at3.given.1, c.with_ring.ensures, c.before.before.before.before.before.bare.ensures)
     (rw c.before.index-word3.ensures.0, rw c.before.index-word3.ensures.1)
 
 enum-known-at-4 : tie.Need-enum-known-at-4

@@ -1,6 +1,6 @@
--- The tests of `begin` are those of `beginOf`; then each arm is its clause of `passing`.
+-- The tests of `begin` are those of `begin_of`; then each arm is its clause of `passing`.
 use Rattle.std.proofs.Common.{rules}
-use Rattle.machine.specs.Begin.{beginOf}
+use Rattle.machine.specs.Begin.{begin_of}
 use Rattle.machine.proofs.state.Machine.begin.Statement.{statement}
 use Rattle.machine.proofs.state.Machine.begin.Tie as tie
 
@@ -14,7 +14,7 @@ begun-requires : tie.Need-begun-requires
 begun-requires c κs = search rules
 
 returns : tie.Need-returns
-unfolding beginOf
+unfolding begin_of
 returns c = rw (c.begun.ensures, ← c.before.before.before.may-begin.ensures, c.before.enum_told.given.1)
 
 enum-known-refusal : tie.Need-enum-known-refusal
@@ -24,7 +24,7 @@ refused-requires : tie.Need-refused-requires
 refused-requires c κs = search rules
 
 returns-2 : tie.Need-returns-2
-unfolding beginOf
+unfolding begin_of
 returns-2 c = rw (c.refused.ensures, ← c.before.before.before.before.may-begin.ensures, c.before.before.refusal.given.1)
 
 pub begin-spec : {M : Type 1} → statement M

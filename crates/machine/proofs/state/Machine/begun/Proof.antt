@@ -16,7 +16,7 @@ with-stage-requires : tie.Need-with-stage-requires
 with-stage-requires c κs = search rules
 
 returns : tie.Need-returns
-returns c = rw (c.with-stage.ensures, c.before.first-stage.ensures, c.before.before.queue.ensures, c.before.before.before.own-queue.ensures)
+returns c = rw (c.with-stage.ensures, c.before.first-stage.ensures, c.before.before.queue.ensures, c.before.before.before.own_queue.ensures)
 
 pub begun-spec : {M : Type 1} → statement M
 begun-spec =

@@ -1,7 +1,7 @@
--- `free_ring` is `freeRing`, by what its calls ensure.
+-- `free_ring` is `free_ring`, by what its calls ensure.
 use Rattle.std.proofs.Common.{rules}
-use Rattle.machine.specs.Claim.{freeRing}
-use Rattle.machine.proofs.KeptLaws.{row-free}
+use Rattle.machine.specs.Claim.{free_ring}
+use Rattle.machine.proofs.KeptLaws.{row_free}
 use Rattle.machine.proofs.state.Machine.free_ring.Statement.{statement}
 use Rattle.machine.proofs.state.Machine.free_ring.Tie as tie
 
@@ -15,13 +15,13 @@ found-requires : tie.Need-found-requires
 found-requires c κs = search rules
 
 returns : tie.Need-returns
-unfolding freeRing
+unfolding free_ring
 returns c =
     let p = c.before in
     let k = p.before.before in
     rw (
       c.found.ensures,
-      row-free k.before.args.self k.rings-kept.result k.rings-kept.ensures p.free-place.result p.free-place.ensures,
+      row_free k.before.args.self k.rings-kept.result k.rings-kept.ensures p.free-place.result p.free-place.ensures,
     )
 
 pub free-ring-spec : {M : Type 1} → statement M

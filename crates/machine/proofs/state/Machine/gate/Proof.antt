@@ -1,6 +1,6 @@
 -- The tests that begin and step share, by what its calls ensure.
 use Rattle.std.proofs.Common.{rules}
-use Rattle.machine.specs.Step.{gateOf}
+use Rattle.machine.specs.Step.{gate_of}
 use Rattle.machine.proofs.state.Machine.gate.Statement.{statement}
 use Rattle.machine.proofs.state.Machine.gate.Tie as tie
 
@@ -11,7 +11,7 @@ call-tests-requires : tie.Need-call-tests-requires
 call-tests-requires c κs = search rules
 
 returns : tie.Need-returns
-unfolding gateOf
+unfolding gate_of
 returns c = rw (c.call-tests.ensures, c.before.is-sound.ensures)
 
 pub gate-spec : {M : Type 1} → statement M

@@ -1,8 +1,8 @@
--- Each branch of `is_sound` is that of `soundB`, by what its calls ensure.
+-- Each branch of `is_sound` is that of `sound_b`, by what its calls ensure.
 use borrow.Author.Tests.{not-true, not-false}
 use Rattle.std.proofs.Common.{rules}
-use Rattle.machine.specs.Sound.{soundB}
-use Rattle.machine.proofs.KeptLaws.{row-sound}
+use Rattle.machine.specs.Sound.{sound_b}
+use Rattle.machine.proofs.KeptLaws.{row_sound}
 use Rattle.machine.proofs.state.Machine.is_sound.Statement.{statement}
 use Rattle.machine.proofs.state.Machine.is_sound.Tie as tie
 
@@ -10,7 +10,7 @@ counts-in-range-requires : tie.Need-counts-in-range-requires
 counts-in-range-requires c κs = search rules
 
 returns : tie.Need-returns
-unfolding soundB
+unfolding sound_b
 returns c = rw (← c.before.counts-in-range.ensures, not-true c.before.counts-in-range.result c.if1.true)
 
 stages-sound-requires : tie.Need-stages-sound-requires
@@ -23,13 +23,13 @@ parts-sound-requires : tie.Need-parts-sound-requires
 parts-sound-requires c κs = search rules
 
 returns-2 : tie.Need-returns-2
-unfolding soundB
+unfolding sound_b
 returns-2 c =
     let k = c.before.before in
     let s = k.before in
     let n = s.before.before in
     rw (
-      row-sound n.before.args.self k.rings-kept.result k.rings-kept.ensures c.parts-sound.result s.stages-sound.result
+      row_sound n.before.args.self k.rings-kept.result k.rings-kept.ensures c.parts-sound.result s.stages-sound.result
           s.stages-sound.ensures
           c.parts-sound.ensures,
       ← n.counts-in-range.ensures,

@@ -10,7 +10,7 @@ stage-sound-requires : tie.Need-stage-sound-requires
 stage-sound-requires c κs = search rules
 
 returns : tie.Need-returns
-returns c = rw (c.stage-sound.ensures, c.before.stage.ensures)
+returns c = rw (c.stage_sound_lem.ensures, c.before.stage.ensures)
 
 pub is-stage-sound-spec : {M : Type 1} → statement M
 is-stage-sound-spec = tie.close (tie.spec stage-requires stage-sound-requires returns)

@@ -1,4 +1,4 @@
--- The tests are those of `beginOf`, by what its calls ensure.
+-- The tests are those of `begin_of`, by what its calls ensure.
 use Rattle.std.proofs.Common.{rules}
 use Rattle.machine.proofs.state.Machine.may_begin.Statement.{statement}
 use Rattle.machine.proofs.state.Machine.may_begin.Tie as tie

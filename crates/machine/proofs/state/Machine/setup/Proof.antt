@@ -1,6 +1,6 @@
--- Each arm is that of `settingUp`, by what its calls ensure: with no queue the fresh machine is the machine of zeros.
+-- Each arm is that of `setting_up`, by what its calls ensure: with no queue the fresh machine is the machine of zeros.
 use Rattle.std.proofs.Common.{rules}
-use Rattle.machine.specs.Setup.{setupOf}
+use Rattle.machine.specs.Setup.{setup_of}
 use Rattle.machine.proofs.state.Machine.setup.Statement.{statement}
 use Rattle.machine.proofs.state.Machine.setup.Tie as tie
 
@@ -14,7 +14,7 @@ fresh-requires : tie.Need-fresh-requires
 fresh-requires c κs = search rules
 
 returns : tie.Need-returns
-unfolding setupOf
+unfolding setup_of
 returns c = rw (c.fresh.ensures, ← c.before.before.before.setup-tests.ensures, c.before.enum_told.given.1)
 
 enum-known-refusal : tie.Need-enum-known-refusal
@@ -24,7 +24,7 @@ fresh-requires-2 : tie.Need-fresh-requires-2
 fresh-requires-2 c κs = search rules
 
 returns-2 : tie.Need-returns-2
-unfolding setupOf
+unfolding setup_of
 returns-2 c = rw (c.fresh2.ensures, ← c.before.before.before.before.setup-tests.ensures, c.before.before.refusal.given.1)
 
 pub setup-spec : {M : Type 1} → statement M

@@ -40,7 +40,7 @@ returns c =
     let advanced = c.before.before.before.before.advanced in
     let claim = c.before.before.before.before.before.before.claim in
     let touched = c.before.before.before.before.before.before.before.touched in
-    let own = c.before.before.before.before.before.before.before.before.own-queue in
+    let own = c.before.before.before.before.before.before.before.before.own_queue in
     let tested = c.before.before.before.before.before.before.before.before.before in
     rw (
       c.stored.ensures,

@@ -1,6 +1,6 @@
--- Each arm is its clause of `heardAt`, by what its calls ensure.
+-- Each arm is its clause of `heard_at`, by what its calls ensure.
 use Rattle.std.proofs.Common.{sym, rules}
-use Rattle.session.proofs.GrammarLaws.{hear-at}
+use Rattle.session.proofs.GrammarLaws.{hear_at}
 use Rattle.session.proofs.grammar.Session.hear.Statement.{statement}
 use Rattle.session.proofs.grammar.Session.hear.Tie as tie
 
@@ -50,25 +50,25 @@ hear-operand-requires : tie.Need-hear-operand-requires
 hear-operand-requires c κs = search rules
 
 returns : tie.Need-returns
-returns c = rw (c.to.ensures, c.before.with-places.ensures) (sym (hear-at _ _ _ c.before.before.enum_told.given.1))
+returns c = rw (c.to.ensures, c.before.with-places.ensures) (sym (hear_at _ _ _ c.before.before.enum_told.given.1))
 
 returns-2 : tie.Need-returns-2
-returns-2 c = rw c.flavors-read.ensures (sym (hear-at _ _ _ c.before.enum-told2.given.1))
+returns-2 c = rw c.flavors-read.ensures (sym (hear_at _ _ _ c.before.enum-told2.given.1))
 
 returns-3 : tie.Need-returns-3
-returns-3 c = rw c.hear-flavor.ensures (sym (hear-at _ _ _ c.before.before.awaiting.given.1))
+returns-3 c = rw c.hear-flavor.ensures (sym (hear_at _ _ _ c.before.before.awaiting.given.1))
 
 returns-4 : tie.Need-returns-4
-returns-4 c = rw c.to2.ensures (sym (hear-at _ _ _ c.before.enum-told3.given.1))
+returns-4 c = rw c.to2.ensures (sym (hear_at _ _ _ c.before.enum-told3.given.1))
 
 returns-5 : tie.Need-returns-5
-returns-5 c = rw c.hear-kind.ensures (sym (hear-at _ _ _ c.before.before.awaiting2.given.1))
+returns-5 c = rw c.hear-kind.ensures (sym (hear_at _ _ _ c.before.before.awaiting2.given.1))
 
 returns-6 : tie.Need-returns-6
-returns-6 c = rw c.hear-source.ensures (sym (hear-at _ _ _ c.before.before.awaiting3.given.1))
+returns-6 c = rw c.hear-source.ensures (sym (hear_at _ _ _ c.before.before.awaiting3.given.1))
 
 returns-7 : tie.Need-returns-7
-returns-7 c = rw c.hear-operand.ensures (sym (hear-at _ _ _ c.before.before.awaiting4.given.1))
+returns-7 c = rw c.hear-operand.ensures (sym (hear_at _ _ _ c.before.before.awaiting4.given.1))
 
 pub hear-spec : {M : Type 1} → statement M
 hear-spec =

@@ -1,4 +1,4 @@
--- Each arm is its clause of `kindHeard`, by what its calls ensure.
+-- Each arm is its clause of `kind_heard`, by what its calls ensure.
 use Rattle.std.proofs.Common.{rules}
 use Rattle.session.proofs.grammar.Session.hear_kind.Statement.{statement}
 use Rattle.session.proofs.grammar.Session.hear_kind.Tie as tie

@@ -1,7 +1,7 @@
--- Each return of `flavor_of` stands behind the tests by which `flavorOf` picks.
+-- Each return of `flavor_of` stands behind the tests by which `flavor_of` picks.
 use borrow.Author.Tests.{eq-eqb, ne_eqb}
-use Rattle.core.proofs.queue.flavor_of.Statement.{statement}
-use Rattle.core.proofs.queue.flavor_of.Tie as tie
+use Rattle.parts.proofs.queue.flavor_of.Statement.{statement}
+use Rattle.parts.proofs.queue.flavor_of.Tie as tie
 
 returns : tie.Need-returns
 returns c = rw (eq-eqb _ 0 c.if1.true)

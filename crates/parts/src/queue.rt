@@ -1,6 +1,6 @@
 // A queue: its flavour, front and back, and the ring that it has now.
-ghost use Rattle.core.specs.Prelude.{◌≡◌};
-ghost use Rattle.core.specs.Queues.{flavorOf, zeroQueue, queueIn};
+ghost use Rattle.std.specs.Prelude.{◌≡◌};
+ghost use Rattle.parts.specs.Queues.{flavor_of, zero_queue, queue_in};
 
 use index::Index;
 use ring::{PlaceNumber, Ring, RingNumber};
@@ -22,7 +22,7 @@ pub struct Queue {
 
 // 0 FIFO, otherwise LIFO.
 pub fn flavor_of(number: u64) -> Flavor
-    ensures { result ≡ flavorOf number }
+    ensures { result ≡ flavor_of number }
 {
     if number == 0 {
         return Flavor::Fifo;
@@ -31,7 +31,7 @@ pub fn flavor_of(number: u64) -> Flavor
 }
 
 pub fn zero_queue() -> Queue
-    ensures { result ≡ zeroQueue }
+    ensures { result ≡ zero_queue }
 {
     let ring = Ring {
         number: RingNumber(0),
@@ -48,7 +48,7 @@ pub fn zero_queue() -> Queue
 
 // Queue k of these, and zeros where there is none.
 pub fn queue_of(queues: [Queue; 4], k: usize) -> Queue
-    ensures { result ≡ queueIn queues k }
+    ensures { result ≡ queue_in queues k }
 {
     if k < 4 { queues[k] } else { zero_queue() }
 }

@@ -1,6 +1,6 @@
 // What a call answers, with its numbers in 01's table.
-ghost use Rattle.core.specs.Prelude.{◌≡◌};
-ghost use Rattle.core.specs.Answers.{refusalOf, shortageOf};
+ghost use Rattle.std.specs.Prelude.{◌≡◌};
+ghost use Rattle.parts.specs.Answers.{refusal_of, shortage_of};
 
 use steal::Steal;
 
@@ -45,7 +45,7 @@ pub enum Answer {
 
 impl Refusal {
     pub fn number(self) -> u64
-        ensures { result ≡ refusalOf self }
+        ensures { result ≡ refusal_of self }
     {
         match self {
             Refusal::PoolLength => 1,
@@ -61,7 +61,7 @@ impl Refusal {
 
 impl Shortage {
     pub fn number(self) -> u64
-        ensures { result ≡ shortageOf self }
+        ensures { result ≡ shortage_of self }
     {
         match self {
             Shortage::TooLarge => 8,

@@ -1,6 +1,6 @@
 // What a claim, a step of a resize and a step leave.
-ghost use Rattle.core.specs.Prelude.{◌≡◌};
-ghost use Rattle.core.specs.Out.{going as goingOf, ended as ended_of};
+ghost use Rattle.std.specs.Prelude.{◌≡◌};
+ghost use Rattle.parts.specs.Out.{going as goingOf, ended as ended_of};
 
 use crate::answer::Answer;
 use crate::queue::Queue;
