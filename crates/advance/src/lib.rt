@@ -1,4 +1,6 @@
 // The step at a stage, of the one queue that it touches.
+#![tactic(auto)]
+
 ghost use Rattle.std.specs.Prelude.{◌≡◌};
 ghost use Rattle.parts.specs.Out.{left, going};
 ghost use Rattle.op_push.specs.Push.{push_of};
@@ -9,12 +11,6 @@ ghost use Rattle.op_batch_source.specs.Source.{source_of};
 ghost use Rattle.op_batch_own.specs.Own.{own_of};
 ghost use Rattle.advance.specs.Advance.{of_push, of_pop, of_steal, of_length, of_own_batch, of_batch, beside, advance_of};
 
-use parts::answer::{Answer, Refusal};
-use parts::out::{Claim, Out};
-use parts::queue::{Flavor, Queue};
-use parts::stage::{
-    LengthStage, OwnStage, PopStage, Popper, PushStage, SourceStage, Stage, StealStage,
-};
 use op_batch::BatchOut;
 use op_batch_own::own_step;
 use op_batch_source::source_step;
@@ -23,6 +19,12 @@ use op_pop::pop_step;
 use op_push::{PushOut, push_step};
 use op_shrink::PopOut;
 use op_steal::{StealOut, steal_step};
+use parts::answer::{Answer, Refusal};
+use parts::out::{Claim, Out};
+use parts::queue::{Flavor, Queue};
+use parts::stage::{
+    LengthStage, OwnStage, PopStage, Popper, PushStage, SourceStage, Stage, StealStage,
+};
 
 // What an operation's step leaves, as the thread's stage and answer.
 fn push_at(job: u64, at: PushStage, q: Queue, claim: Claim, pool: &mut [u64]) -> Out

@@ -1,4 +1,6 @@
 // The cells of a ring in the lent pool. A ring occupies the first cells of its place, and is worked on as that stretch of the pool alone.
+#![tactic(auto)]
+
 ghost use Rattle.std.specs.Prelude.{◌≡◌, ◌<◌, length, get_or, set};
 ghost use Rattle.cells.specs.Cells.{stands_b, read_of, written_of, copied_of};
 

@@ -8,10 +8,10 @@ ghost use Rattle.export.specs.Words.{Told};
 
 use crate::reading::machine_in;
 use crate::writing::store;
-use parts::answer::{Answer, Refusal};
 use gate::Request;
 use kinds::{KindRead, kind_of, request_of};
 use machine::state::{Called, Machine};
+use parts::answer::{Answer, Refusal};
 use slots::answer::answer_words;
 use slots::queue::flavors_of;
 use words::slices::{MACHINE_WORDS, is_machine};

@@ -4,8 +4,8 @@ ghost use Rattle.slots.specs.Queue.{queue_of};
 ghost use Rattle.words.specs.Slices.{queue_in};
 ghost use Rattle.export.specs.Words.{queues_in, thread_in, threads_in, machine_in};
 
-use parts::queue::Queue;
 use machine::state::{Machine, Thread};
+use parts::queue::Queue;
 use ring::RingNumber;
 use slots::queue::queue_of;
 use words::slices::{queue_in, stage_in, word};

@@ -5,8 +5,8 @@ ghost use Rattle.words.specs.Stage.{stage_words, stage_of};
 ghost use Rattle.words.specs.Slices.{put_queue, put_stage, machine_size};
 ghost use Rattle.export.specs.Words.{put_counts, put_queues, QueuesTold, put_threads, ThreadsTold, stored_of, Told};
 
-use parts::queue::{Queue, queue_of};
 use machine::state::{Machine, Thread};
+use parts::queue::{Queue, queue_of};
 use slots::queue::queue_words;
 use words::slices::{MACHINE_WORDS, put_queue, put_stage, put_word};
 use words::stage::stage_words;

@@ -1,4 +1,6 @@
 // What a call asks for, and the tests that turn it away.
+#![tactic(auto)]
+
 ghost use Rattle.std.specs.Prelude.{◌≡◌};
 ghost use Rattle.gate.specs.Gate.{own_queue};
 
@@ -7,7 +9,7 @@ use parts::answer::Refusal;
 pub mod tests;
 
 // What a thread can begin. The owner's operations work on the thread's own queue; the others name a queue.
-#[derive(Drop)]
+#[derive(Clone, Copy)]
 pub enum Operation {
     Push(u64),
     Pop,
@@ -18,14 +20,14 @@ pub enum Operation {
 }
 
 // What a call asks of a thread.
-#[derive(Drop)]
+#[derive(Clone, Copy)]
 pub enum Request {
     Step,
     Begin(Operation),
 }
 
 // What the tests before a call find.
-#[derive(Drop)]
+#[derive(Clone, Copy)]
 pub enum Gate {
     Open,
     Shut(Refusal),

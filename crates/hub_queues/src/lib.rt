@@ -1,4 +1,6 @@
 // The functions that firmware links: the exported ones under names of their own.
+#![tactic(auto)]
+
 ghost use Rattle.std.specs.Prelude.{◌≡◌};
 ghost use Rattle.kinds.specs.Kinds.{kind_of};
 ghost use Rattle.export.specs.Exported.{setup_words, SetupTold, call_words, CallTold, shown_words};

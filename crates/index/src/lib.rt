@@ -1,11 +1,13 @@
 // Front and back of a queue: 64-bit signed numbers that wrap.
+#![tactic(auto)]
+
 ghost use Rattle.std.specs.Prelude.{◌≡◌, ◌^◌};
 ghost use Rattle.std.specs.Int.Signed.{mag as magZ};
 ghost use Rattle.std.specs.Int.{w64};
 ghost use Rattle.std.proofs.Common.{to_z};
 ghost use Rattle.index.specs.Index.{mod_z, plus_of, minus_of, difference_of, length_of, behind_b, empty_b, full_b, spans_b, same_b, cell_of};
 
-#[derive(Drop)]
+#[derive(Clone, Copy)]
 pub struct Index(pub i64);
 
 // The number itself where it is not below zero, and otherwise how far it lies below -1.

@@ -1,4 +1,6 @@
 // The ring that a stage keeps alive beside the queues' current ones; there is never more than one.
+#![tactic(auto)]
+
 ghost use Rattle.std.specs.Prelude.{◌≡◌};
 ghost use Rattle.keeps.specs.Kept.{resize_keeps, push_keeps, pop_keeps, steal_keeps, source_keeps, reserve_keeps, own_keeps, kept_of};
 
@@ -8,7 +10,7 @@ use parts::stage::{
 use ring::Ring;
 
 // A ring that is being built, from the claim to the swap, or one that is held, from its load until the answer.
-#[derive(Drop)]
+#[derive(Clone, Copy)]
 pub enum Kept {
     Nothing,
     Built(Ring),

@@ -1,11 +1,13 @@
 // The kinds of calls, by their numbers, and what a call of a kind asks for.
+#![tactic(auto)]
+
 ghost use Rattle.std.specs.Prelude.{◌≡◌};
 ghost use Rattle.kinds.specs.Kinds.{kind_of, source_b, operand_b, request_of};
 
 use gate::{Operation, Request, own_queue};
 
 // 0 to 7.
-#[derive(Drop)]
+#[derive(Clone, Copy)]
 pub enum Kind {
     Step,
     Push,
@@ -17,7 +19,7 @@ pub enum Kind {
     BatchAndPop,
 }
 
-#[derive(Drop)]
+#[derive(Clone, Copy)]
 pub enum KindRead {
     Kind(Kind),
     Wrong,

@@ -1,12 +1,14 @@
 // The lines that a session prints: a call's answer and, after a tab for each queue, front, back, ring, place and capacity.
+#![tactic(auto)]
+
 ghost use Rattle.std.specs.Prelude.{◌≡◌, ◌++◌};
 ghost use Rattle.parts.specs.declared.answer.Answer.TheVariants.{Length};
 ghost use Rattle.writing.specs.Writing.{page as page_of, put, signed, decimal};
 ghost use Rattle.line.specs.Line.{stolen_text, answer_text, ring_text, queue_text, queue_text_if, call_text, setup_text, bad_text};
 
+use index::Index;
 use parts::answer::Answer;
 use parts::queue::{Queue, queue_of};
-use index::Index;
 use ring::Ring;
 use steal::Steal;
 use writing::{put_number, put_signed, put_text};

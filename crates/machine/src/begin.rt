@@ -7,9 +7,9 @@ ghost use Rattle.machine.specs.Step.{gate_of};
 ghost use Rattle.machine.specs.Begin.{begun as begunOf, begin_of};
 
 use crate::state::{Called, Machine};
-use parts::answer::Answer;
 use gate::tests::{begin_tests, then_gate};
 use gate::{Gate, Operation, own_queue};
+use parts::answer::Answer;
 use starts::first_stage;
 
 impl Machine {

@@ -3,9 +3,9 @@ ghost use Rattle.std.specs.Prelude.{◌≡◌};
 ghost use Rattle.machine.specs.Claim.{free_ring, claim_of};
 
 use crate::state::Machine;
+use op_resize::found;
 use parts::out::Claim;
 use parts::stage::Stage;
-use op_resize::found;
 use places::used::free_place;
 use stages::claims;
 

@@ -1,4 +1,6 @@
 // The step machine: up to four queues and their threads over one lent pool of rings.
+#![tactic(auto)]
+
 pub mod begin;
 pub mod call;
 pub mod claim;

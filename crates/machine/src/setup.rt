@@ -5,12 +5,12 @@ ghost use Rattle.machine.specs.State.{leaves, after};
 ghost use Rattle.machine.specs.Setup.{idle_threads, fresh_queue, fresh_queues, fresh_machine, setup_of};
 
 use crate::state::{Called, Machine, Thread};
-use parts::answer::Answer;
-use parts::queue::{Flavor, Queue, zero_queue};
-use parts::stage::Stage;
 use gate::Gate;
 use gate::tests::setup_tests;
 use index::Index;
+use parts::answer::Answer;
+use parts::queue::{Flavor, Queue, zero_queue};
+use parts::stage::Stage;
 use ring::{PlaceNumber, Ring, RingNumber};
 
 // Fifo where no flavour is given.

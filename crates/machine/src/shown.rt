@@ -7,7 +7,7 @@ use cells::PLACE_CELLS;
 use gate::tests::is_pool;
 
 // A part of the pool: its first cell, and how many cells it has.
-#[derive(Drop)]
+#[derive(Clone, Copy)]
 pub struct Part {
     pub start: usize,
     pub count: usize,

@@ -7,8 +7,8 @@ ghost use Rattle.machine.specs.State.{stage_at};
 ghost use Rattle.machine.specs.Sound.{stages_sound, sound_b};
 
 use crate::state::Machine;
-use parts::queue::Queue;
 use keeps::Kept;
+use parts::queue::Queue;
 use places::apart::all_apart;
 use sound::stage::stage_sound;
 use sound::{counts_in_range, queues_sound};

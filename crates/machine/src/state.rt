@@ -3,20 +3,20 @@ ghost use Rattle.std.specs.Prelude.{◌≡◌, slice_set};
 ghost use Rattle.places.specs.Places.{kept_in};
 ghost use Rattle.machine.specs.State.{queue_at, stage_at, kept_at, with_stage, number_after, refused_of};
 
+use keeps::{Kept, ring_kept};
 use parts::answer::{Answer, Refusal};
 use parts::out::Claim;
 use parts::queue::{Queue, queue_of};
 use parts::stage::Stage;
-use keeps::{Kept, ring_kept};
 use ring::RingNumber;
 
-#[derive(Drop)]
+#[derive(Clone, Copy)]
 pub struct Thread {
     pub stage: Stage,
 }
 
 // Queues and threads above the count are not looked at.
-#[derive(Drop)]
+#[derive(Clone, Copy)]
 pub struct Machine {
     pub queues: [Queue; 4],
     pub threads: [Thread; 4],
@@ -26,7 +26,7 @@ pub struct Machine {
 }
 
 // What a call leaves: the next machine, and the answer.
-#[derive(Drop)]
+#[derive(Clone, Copy)]
 pub struct Called {
     pub machine: Machine,
     pub answer: Answer,

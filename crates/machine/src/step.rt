@@ -9,10 +9,10 @@ ghost use Rattle.machine.specs.Step.{gate_of, stored as stored_of, step_of};
 
 use crate::state::{Called, Machine, number_after, queues_with};
 use advance::advance;
-use parts::out::{Claim, Out};
-use parts::stage::Stage;
 use gate::tests::{step_tests, then_gate};
 use gate::{Gate, own_queue};
+use parts::out::{Claim, Out};
+use parts::stage::Stage;
 use stages::{is_idle, touched};
 
 impl Machine {

@@ -1,18 +1,20 @@
 // What both halves of a batch share: how many jobs it wants, which stage comes next, which cells it works on.
+#![tactic(auto)]
+
 ghost use Rattle.std.specs.Prelude.{◌≡◌, ◌+◌, min};
 ghost use Rattle.op_batch.specs.Haul.{take_at, put_at, reserve_at, wanted_of, reserving as reservingOf, with_job, onward as onwardOf, with_count, turn_of, first_of, copying as copyingOf, mirror_of, slot_of, swapping as swappingOf, landing as landingOf, is_nothing, stopped as stoppedOf, turning as turningOf, written_after, to_write, next_in_hand, answer_of};
 
+use index::Index;
 use parts::answer::Answer;
 use parts::queue::{Flavor, Queue};
 use parts::stage::{
     AllStage, BatchKind, Haul, InHand, OneStage, OwnStage, PutStage, ReserveStage, SourceStage,
     SwapStage, TakeStage, Wanted,
 };
-use index::Index;
 use steal::Steal;
 
 // What a step of a batch leaves: the queue that it touched, with the next stage, on the source or on the own queue, or the answer.
-#[derive(Drop)]
+#[derive(Clone, Copy)]
 pub enum BatchOut {
     Source(Queue, SourceStage),
     Own(Queue, OwnStage),
@@ -20,7 +22,7 @@ pub enum BatchOut {
 }
 
 // Whether one more is to be done: the next, after so many, or none.
-#[derive(Drop)]
+#[derive(Clone, Copy)]
 pub enum Further {
     Next(u64),
     Over,

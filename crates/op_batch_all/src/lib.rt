@@ -1,12 +1,14 @@
 // From a FIFO source, all at once.
+#![tactic(auto)]
+
 ghost use Rattle.std.specs.Prelude.{◌≡◌};
 ghost use Rattle.op_batch_all.specs.All.{all_step_of};
 
 use cells::read;
+use op_batch::{BatchOut, first, put_at, take_at};
 use parts::answer::Answer;
 use parts::queue::Queue;
 use parts::stage::{AllStage, Haul, PutStage, TakeStage};
-use op_batch::{BatchOut, first, put_at, take_at};
 use steal::Steal;
 
 pub fn all_step(haul: Haul, at: AllStage, q: Queue, pool: &[u64]) -> BatchOut

@@ -1,12 +1,14 @@
 // From a LIFO source, one by one.
+#![tactic(auto)]
+
 ghost use Rattle.std.specs.Prelude.{◌≡◌};
 ghost use Rattle.op_batch_one.specs.One.{one_step_of};
 
 use cells::read;
+use op_batch::{BatchOut, next_in_hand, onward, put_at, stopped, take_at, to_write, turning};
 use parts::answer::Answer;
 use parts::queue::{Flavor, Queue};
 use parts::stage::{Haul, InHand, OneStage, PutStage, TakeStage};
-use op_batch::{BatchOut, next_in_hand, onward, put_at, stopped, take_at, to_write, turning};
 use steal::Steal;
 
 pub fn one_step(own: Flavor, haul: Haul, at: OneStage, q: Queue, pool: &[u64]) -> BatchOut

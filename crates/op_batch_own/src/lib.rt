@@ -1,13 +1,15 @@
 // The steps of a batch on the thread's own queue.
+#![tactic(auto)]
+
 ghost use Rattle.std.specs.Prelude.{◌≡◌};
 ghost use Rattle.op_batch_own.specs.Own.{own_of};
 
-use parts::out::Claim;
-use parts::queue::Queue;
-use parts::stage::{OwnStage, SourceStage};
 use op_batch::BatchOut;
 use op_batch_put::put_step;
 use op_batch_reserve::reserve_step;
+use parts::out::Claim;
+use parts::queue::Queue;
+use parts::stage::{OwnStage, SourceStage};
 
 // A step on the own queue q.
 pub fn own_step(at: OwnStage, q: Queue, claim: Claim, pool: &mut [u64]) -> BatchOut

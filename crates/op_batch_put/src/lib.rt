@@ -1,14 +1,16 @@
 // What a batch took is put into the thread's own queue.
+#![tactic(auto)]
+
 ghost use Rattle.std.specs.Prelude.{◌≡◌};
 ghost use Rattle.op_batch_put.specs.Put.{put_of};
 
 use crate::swap::swap_step;
 use cells::write;
-use parts::queue::Queue;
-use parts::stage::{Haul, PutStage};
 use op_batch::{
     BatchOut, answer, copying, put_at, slot, take_at, turn_after, turning, written_after,
 };
+use parts::queue::Queue;
+use parts::stage::{Haul, PutStage};
 
 pub mod swap;
 

@@ -3,10 +3,10 @@ ghost use Rattle.std.specs.Prelude.{◌≡◌};
 ghost use Rattle.op_batch_put.specs.Swap.{near_of, swap_of};
 
 use cells::{read, write};
-use parts::queue::Queue;
-use parts::stage::{Haul, PutStage, SwapStage};
 use index::Index;
 use op_batch::{mirror, swapping, turn_after};
+use parts::queue::Queue;
+use parts::stage::{Haul, PutStage, SwapStage};
 
 // The cell of a swap that is nearer the front; the other is its mirror image.
 fn near_cell(haul: Haul, x: u64) -> Index

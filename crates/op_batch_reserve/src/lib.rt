@@ -1,13 +1,15 @@
 // Room in the own queue for what a batch wants.
+#![tactic(auto)]
+
 ghost use Rattle.std.specs.Prelude.{◌≡◌};
 ghost use Rattle.op_batch_reserve.specs.Reserve.{growing as growingOf, grown as grown_of, reserve_of};
 
+use op_batch::{BatchOut, reserve_at};
+use op_resize::resize_step;
 use parts::answer::{Answer, Shortage};
 use parts::out::{Claim, Resized};
 use parts::queue::Queue;
 use parts::stage::{OwnStage, ReserveStage, ResizeStage, Wanted};
-use op_batch::{BatchOut, reserve_at};
-use op_resize::resize_step;
 use ring::{Capacity, Ring};
 
 // There is too little room: resize, unless that would be too large.

@@ -1,16 +1,18 @@
 // The steps of a batch on its source.
+#![tactic(auto)]
+
 ghost use Rattle.std.specs.Prelude.{◌≡◌};
 ghost use Rattle.op_batch.specs.Haul.{hauling as haulingOf};
 ghost use Rattle.op_batch_source.specs.Source.{taking as takingOf, held as held_of, first_read, take_of, source_of};
 
 use cells::read;
-use parts::answer::Answer;
-use parts::queue::{Flavor, Queue};
-use parts::stage::{BatchKind, Haul, InHand, OneStage, SourceStage, TakeStage, Wanted};
 use index::Index;
 use op_batch::{BatchOut, copying, reserving, stopped, take_at, turn, wanted, with_job};
 use op_batch_all::all_step;
 use op_batch_one::one_step;
+use parts::answer::Answer;
+use parts::queue::{Flavor, Queue};
+use parts::stage::{BatchKind, Haul, InHand, OneStage, SourceStage, TakeStage, Wanted};
 use ring::Ring;
 use steal::Steal;
 

@@ -1,4 +1,6 @@
 // A length, and a batch from the thread's own queue, a step at a time.
+#![tactic(auto)]
+
 ghost use Rattle.std.specs.Prelude.{◌≡◌};
 ghost use Rattle.op_length.specs.Length.{length_step_of, own_batch_of};
 
@@ -8,7 +10,7 @@ use parts::stage::LengthStage;
 use steal::Steal;
 
 // What a step of either leaves: the queue, with the next stage or the answer.
-#[derive(Drop)]
+#[derive(Clone, Copy)]
 pub enum LengthOut {
     Going(Queue, LengthStage),
     Ended(Queue, Answer),

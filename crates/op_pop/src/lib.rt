@@ -1,13 +1,15 @@
 // A pop, a step at a time, by the queue's flavour.
+#![tactic(auto)]
+
 ghost use Rattle.std.specs.Prelude.{◌≡◌};
 ghost use Rattle.op_pop.specs.Pop.{pop_of};
 
-use parts::out::Claim;
-use parts::queue::Queue;
-use parts::stage::{PopStage, Popper};
 use op_pop_fifo::fifo_pop_step;
 use op_pop_lifo::lifo_pop_step;
 use op_shrink::{PopOut, shrink_step};
+use parts::out::Claim;
+use parts::queue::Queue;
+use parts::stage::{PopStage, Popper};
 
 // A step of a pop from queue q.
 pub fn pop_step(popper: Popper, at: PopStage, q: Queue, claim: Claim, pool: &mut [u64]) -> PopOut

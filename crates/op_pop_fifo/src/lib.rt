@@ -1,11 +1,13 @@
 // A pop from the front.
+#![tactic(auto)]
+
 ghost use Rattle.std.specs.Prelude.{◌≡◌};
 ghost use Rattle.op_pop_fifo.specs.FifoPop.{fifo as fifo_of, fifo_pop_of};
 
 use cells::read;
+use op_shrink::{PopOut, nothing_for, others, reading};
 use parts::queue::Queue;
 use parts::stage::{FifoPopStage, PopStage, Popper};
-use op_shrink::{PopOut, nothing_for, others, reading};
 use ring::Ring;
 
 fn fifo(q: Queue, at: FifoPopStage) -> PopOut

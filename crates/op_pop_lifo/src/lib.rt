@@ -1,12 +1,14 @@
 // A pop from the back.
+#![tactic(auto)]
+
 ghost use Rattle.std.specs.Prelude.{◌≡◌};
 ghost use Rattle.op_pop_lifo.specs.LifoPop.{lifo as lifo_of, decided as decidedOf, few_b, lifo_pop_of};
 
 use cells::read;
-use parts::queue::Queue;
-use parts::stage::{LifoPopStage, PopStage, Popper};
 use index::Index;
 use op_shrink::{PopOut, nothing_for, others, reading};
+use parts::queue::Queue;
+use parts::stage::{LifoPopStage, PopStage, Popper};
 use ring::Ring;
 
 fn lifo(q: Queue, at: LifoPopStage) -> PopOut

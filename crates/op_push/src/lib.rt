@@ -1,18 +1,20 @@
 // A push, a step at a time.
+#![tactic(auto)]
+
 ghost use Rattle.std.specs.Prelude.{◌≡◌};
 ghost use Rattle.op_push.specs.Push.{growing as growingOf, grown as grown_of, push_of};
 
 use cells::write;
+use index::Index;
+use op_resize::resize_step;
 use parts::answer::{Answer, Shortage};
 use parts::out::{Claim, Resized};
 use parts::queue::Queue;
 use parts::stage::{PushStage, ResizeStage};
-use index::Index;
-use op_resize::resize_step;
 use ring::{Capacity, Ring};
 
 // What a step of a push leaves: the queue, with the next stage or the answer.
-#[derive(Drop)]
+#[derive(Clone, Copy)]
 pub enum PushOut {
     Going(Queue, PushStage),
     Ended(Queue, Answer),

@@ -1,12 +1,14 @@
 // A resize of a queue, a step at a time.
+#![tactic(auto)]
+
 ghost use Rattle.std.specs.Prelude.{◌≡◌};
 ghost use Rattle.op_resize.specs.Resize.{copying as copyingOf, found_of, claimed as claimed_of, resizing, resize_of};
 
 use cells::copy;
+use index::Index;
 use parts::out::{Claim, Resized};
 use parts::queue::Queue;
 use parts::stage::ResizeStage;
-use index::Index;
 use ring::{PlaceNumber, Ring, RingNumber};
 
 // The next index is i: copy it, or swap where it is the back just loaded.

@@ -1,18 +1,20 @@
 // What both pops share: how they answer, and the shrinking.
+#![tactic(auto)]
+
 ghost use Rattle.std.specs.Prelude.{◌≡◌};
 ghost use Rattle.op_shrink.specs.Shrink.{others_of, nothing_for, job_for, reading as reading_of, shrunk as shrunkOf, shrink_of};
 
+use index::Index;
+use op_resize::resize_step;
 use parts::answer::Answer;
 use parts::out::{Claim, Resized};
 use parts::queue::Queue;
 use parts::stage::{PopStage, Popper, ResizeStage};
-use index::Index;
-use op_resize::resize_step;
 use ring::Ring;
 use steal::Steal;
 
 // What a step of a pop leaves: the queue, with the next stage or the answer.
-#[derive(Drop)]
+#[derive(Clone, Copy)]
 pub enum PopOut {
     Going(Queue, PopStage),
     Ended(Queue, Answer),

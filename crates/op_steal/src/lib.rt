@@ -1,4 +1,6 @@
 // A single steal, a step at a time.
+#![tactic(auto)]
+
 ghost use Rattle.std.specs.Prelude.{◌≡◌};
 ghost use Rattle.op_steal.specs.Steal.{steal_of};
 
@@ -9,7 +11,7 @@ use parts::stage::StealStage;
 use steal::Steal;
 
 // What a step of a steal leaves: the queue, with the next stage or the answer.
-#[derive(Drop)]
+#[derive(Clone, Copy)]
 pub enum StealOut {
     Going(Queue, StealStage),
     Ended(Queue, Answer),

@@ -5,7 +5,7 @@ ghost use Rattle.parts.specs.Answers.{refusal_of, shortage_of};
 use steal::Steal;
 
 // Why a call was turned away: refusals 1 to 7, in order.
-#[derive(Drop)]
+#[derive(Clone, Copy)]
 pub enum Refusal {
     PoolLength,
     Counts,
@@ -17,14 +17,14 @@ pub enum Refusal {
 }
 
 // Why a push or a batch ended with nothing done: answers 8 and 9, in order.
-#[derive(Drop)]
+#[derive(Clone, Copy)]
 pub enum Shortage {
     TooLarge,
     NoRing,
 }
 
 // What a call answers.
-#[derive(Drop)]
+#[derive(Clone, Copy)]
 pub enum Answer {
     // A begin, and a step that is not the last.
     Working,

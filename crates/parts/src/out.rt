@@ -8,7 +8,7 @@ use crate::stage::{ResizeStage, Stage};
 use ring::{PlaceNumber, RingNumber};
 
 // What a claim of a ring found.
-#[derive(Drop)]
+#[derive(Clone, Copy)]
 pub enum Claim {
     Nothing,
     Got {
@@ -18,7 +18,7 @@ pub enum Claim {
 }
 
 // What a step of a resize leaves: a further stage; no ring to be had; or the queue with its new ring.
-#[derive(Drop)]
+#[derive(Clone, Copy)]
 pub enum Resized {
     Stage(ResizeStage),
     NoRing,
@@ -26,7 +26,7 @@ pub enum Resized {
 }
 
 // What a step leaves: the one queue that it touched, the thread's stage, the answer.
-#[derive(Drop)]
+#[derive(Clone, Copy)]
 pub struct Out {
     pub queue: Queue,
     pub stage: Stage,

@@ -6,13 +6,13 @@ use index::Index;
 use ring::{PlaceNumber, Ring, RingNumber};
 
 // Which end the owner pops. A queue keeps its flavour for life.
-#[derive(Drop)]
+#[derive(Clone, Copy)]
 pub enum Flavor {
     Fifo,
     Lifo,
 }
 
-#[derive(Drop)]
+#[derive(Clone, Copy)]
 pub struct Queue {
     pub flavor: Flavor,
     pub front: Index,

@@ -4,7 +4,7 @@ use index::Index;
 use ring::Ring;
 
 // A resize of the own queue to a capacity; then to a ring that was claimed.
-#[derive(Drop)]
+#[derive(Clone, Copy)]
 pub enum ResizeStage {
     LoadBack { capacity: usize },
     LoadFront { capacity: usize, b: Index },
@@ -12,7 +12,7 @@ pub enum ResizeStage {
     Swap { ring: Ring },
 }
 
-#[derive(Drop)]
+#[derive(Clone, Copy)]
 pub enum PushStage {
     LoadBack,
     LoadFront { b: Index },
@@ -22,7 +22,7 @@ pub enum PushStage {
 }
 
 // others: the difference first seen, which is above 0 there, less one.
-#[derive(Drop)]
+#[derive(Clone, Copy)]
 pub enum FifoPopStage {
     LoadBack,
     LoadFront { b: Index },
@@ -32,7 +32,7 @@ pub enum FifoPopStage {
 }
 
 // others: the difference b - 1 - f, which is above 0 there, less one. The last job is at b - 1, and so is the front that was loaded.
-#[derive(Drop)]
+#[derive(Clone, Copy)]
 pub enum LifoPopStage {
     LoadBack,
     LoadFront { b: Index },
@@ -45,7 +45,7 @@ pub enum LifoPopStage {
     Read { b: Index, others: u64 },
 }
 
-#[derive(Drop)]
+#[derive(Clone, Copy)]
 pub enum PopStage {
     Fifo(FifoPopStage),
     Lifo(LifoPopStage),
@@ -53,14 +53,14 @@ pub enum PopStage {
 }
 
 // Who pops: a pop, or a batch and pop from the thread's own queue, which answers as a steal does.
-#[derive(Drop)]
+#[derive(Clone, Copy)]
 pub enum Popper {
     Pop,
     BatchAndPop,
 }
 
 // The ring is held from its load until the answer.
-#[derive(Drop)]
+#[derive(Clone, Copy)]
 pub enum StealStage {
     LoadFront,
     LoadBack { f: Index },
@@ -70,21 +70,21 @@ pub enum StealStage {
     Exchange { f: Index, ring: Ring, job: u64 },
 }
 
-#[derive(Drop)]
+#[derive(Clone, Copy)]
 pub enum LengthStage {
     LoadBack,
     LoadFront { b: Index },
 }
 
 // A batch moves jobs; a batch and pop also answers one.
-#[derive(Drop)]
+#[derive(Clone, Copy)]
 pub enum BatchKind {
     Batch,
     BatchAndPop,
 }
 
 // n jobs from f on are wanted for the own queue.
-#[derive(Drop)]
+#[derive(Clone, Copy)]
 pub struct Wanted {
     pub kind: BatchKind,
     pub f: Index,
@@ -92,7 +92,7 @@ pub struct Wanted {
 }
 
 // The job that a batch and pop is to answer.
-#[derive(Drop)]
+#[derive(Clone, Copy)]
 pub enum InHand {
     Nothing,
     Job(u64),
@@ -100,7 +100,7 @@ pub enum InHand {
 
 // From the load of the source's ring on: the ring, held until the answer; the source's front f; how many jobs go to the own queue, from
 // its back b on.
-#[derive(Drop)]
+#[derive(Clone, Copy)]
 pub struct Haul {
     pub ring: Ring,
     pub f: Index,
@@ -110,7 +110,7 @@ pub struct Haul {
 }
 
 // Taking from a FIFO source all at once. i: jobs copied so far.
-#[derive(Drop)]
+#[derive(Clone, Copy)]
 pub enum AllStage {
     Copy { i: u64 },
     ReloadRing,
@@ -118,7 +118,7 @@ pub enum AllStage {
 }
 
 // Taking from a LIFO source one by one. i: jobs written so far.
-#[derive(Drop)]
+#[derive(Clone, Copy)]
 pub enum OneStage {
     ExchangeFirst { job: u64 },
     ReloadBack { i: u64 },
@@ -128,7 +128,7 @@ pub enum OneStage {
 }
 
 // Taking from the source, while its ring is held.
-#[derive(Drop)]
+#[derive(Clone, Copy)]
 pub enum TakeStage {
     ReadFirst,
     All(AllStage),
@@ -136,7 +136,7 @@ pub enum TakeStage {
 }
 
 // The steps of a batch on its source. others: the limit less one.
-#[derive(Drop)]
+#[derive(Clone, Copy)]
 pub enum SourceStage {
     LoadFront {
         kind: BatchKind,
@@ -154,7 +154,7 @@ pub enum SourceStage {
     Take(Haul, TakeStage),
 }
 
-#[derive(Drop)]
+#[derive(Clone, Copy)]
 pub enum ReserveStage {
     LoadBack,
     LoadFront { b: Index },
@@ -162,7 +162,7 @@ pub enum ReserveStage {
 }
 
 // A swap of the reversal.
-#[derive(Drop)]
+#[derive(Clone, Copy)]
 pub enum SwapStage {
     ReadNear,
     ReadFar { near: u64 },
@@ -171,7 +171,7 @@ pub enum SwapStage {
 }
 
 // Putting what was taken into the own queue. The reversal is by swaps from the outside in; x: swaps made so far.
-#[derive(Drop)]
+#[derive(Clone, Copy)]
 pub enum PutStage {
     WriteCopy { i: u64, job: u64 },
     WriteOne { i: u64, job: u64 },
@@ -180,7 +180,7 @@ pub enum PutStage {
 }
 
 // The steps of a batch on the thread's own queue.
-#[derive(Drop)]
+#[derive(Clone, Copy)]
 pub enum OwnStage {
     Reserve(Wanted, ReserveStage),
     LoadBack { wanted: Wanted },
@@ -188,7 +188,7 @@ pub enum OwnStage {
 }
 
 // Of a steal, a length and a batch the first number is the queue that it names.
-#[derive(Drop)]
+#[derive(Clone, Copy)]
 pub enum Stage {
     Idle,
     Push(u64, PushStage),

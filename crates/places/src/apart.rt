@@ -5,8 +5,8 @@ ghost use Rattle.parts.specs.Queues.{queue_in};
 ghost use Rattle.places.specs.Places.{kept_in, apart_of, all_apart_of};
 
 use crate::kept::{both_build, builds_in, kept_of};
-use parts::queue::{Queue, queue_of};
 use keeps::Kept;
+use parts::queue::{Queue, queue_of};
 
 // The place of queue k's ring.
 pub(crate) fn place_of(queues: [Queue; 4], k: usize) -> usize

@@ -5,8 +5,8 @@ ghost use Rattle.places.specs.Places.{kept_in, used_by_of, used_of, free_place_o
 
 use crate::apart::place_of;
 use crate::kept::{keeps_in, kept_of};
-use parts::queue::Queue;
 use keeps::Kept;
+use parts::queue::Queue;
 
 // Queue i's ring is in this place, or thread i keeps one there.
 fn used_by(queues: [Queue; 4], kept: [Kept; 4], place: usize, i: usize) -> bool

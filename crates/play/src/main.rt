@@ -1,4 +1,6 @@
 // Plays a session, read from standard input, and writes a line for each call. Where a line is put on the page there is room for any, so none is cut off.
+#![tactic(auto)]
+
 ghost use Rattle.std.specs.Prelude.{◌≡◌, true, ◌⊎◌, ◌≤◌, length};
 ghost use Rattle.io.specs.Counts.{IsPrefixLen};
 ghost use Rattle.writing.specs.Writing.{page as page_of, whole};

@@ -1,24 +1,26 @@
 // A session heard from its text: what the next number says, and what is printed then.
+#![tactic(auto)]
+
 ghost use Rattle.std.specs.Prelude.{◌≡◌};
 ghost use Rattle.writing.specs.Writing.{page as page_of};
 ghost use Rattle.player.specs.Player.{new_player, heard as heard_of, listen_of, finish_of, cells_of, done_b, show_of, ends_b, close_of};
 
 use cells::PLACE_CELLS;
+use line::{put_bad, put_call, put_setup};
 use parts::answer::Answer;
 use parts::queue::Queue;
-use line::{put_bad, put_call, put_setup};
 use reading::{Reader, Word};
 use session::grammar::{Said, Session};
 use sound::MOST_PLACES;
 
-#[derive(Drop)]
+#[derive(Clone, Copy)]
 pub struct Player {
     pub reader: Reader,
     pub session: Session,
 }
 
 // used: how many bytes of the part were read.
-#[derive(Drop)]
+#[derive(Clone, Copy)]
 pub struct Turn {
     pub player: Player,
     pub said: Said,

@@ -1,9 +1,11 @@
 // Numbers in a text that comes in parts. White space and comments part them; a comment goes from `#` to the end of its line.
+#![tactic(auto)]
+
 ghost use Rattle.std.specs.Prelude.{◌≡◌};
 ghost use Rattle.reading.specs.Reading.{digit_b, blank_b, class_of, grown_of, new_reader, after as after_of, grew, in_space, in_number, in_comment, heard_of, end_of, read_of};
 
 // What the reader stands in, between two bytes.
-#[derive(Drop)]
+#[derive(Clone, Copy)]
 pub enum Within {
     Space,
     Number,
@@ -11,7 +13,7 @@ pub enum Within {
 }
 
 // place: the bytes read so far; start: the place of the number's first byte; value: the number so far.
-#[derive(Drop)]
+#[derive(Clone, Copy)]
 pub struct Reader {
     pub within: Within,
     pub place: u64,
@@ -19,7 +21,7 @@ pub struct Reader {
     pub value: u64,
 }
 
-#[derive(Drop)]
+#[derive(Clone, Copy)]
 pub enum Class {
     LineEnd,
     Space,
@@ -29,28 +31,28 @@ pub enum Class {
 }
 
 // What a byte, or the text's end, ends: nothing; a number; a number that is wrong.
-#[derive(Drop)]
+#[derive(Clone, Copy)]
 pub enum Word {
     Nothing,
     Number(u64),
     Wrong,
 }
 
-#[derive(Drop)]
+#[derive(Clone, Copy)]
 pub struct Heard {
     pub reader: Reader,
     pub word: Word,
 }
 
 // used: how many bytes of the part were read.
-#[derive(Drop)]
+#[derive(Clone, Copy)]
 pub struct Read {
     pub heard: Heard,
     pub used: usize,
 }
 
 // A number with one digit more, where it stays below 2^64.
-#[derive(Drop)]
+#[derive(Clone, Copy)]
 pub enum Grown {
     To(u64),
     TooLarge,

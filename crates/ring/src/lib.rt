@@ -1,17 +1,19 @@
 // A ring: its number, its place in the pool, its capacity; and the capacities.
+#![tactic(auto)]
+
 ghost use Rattle.std.specs.Prelude.{◌≡◌, ◌+◌, ◌/◌, nat_le};
 ghost use Rattle.ring.specs.Capacity.{allowed_b, twice_of, holding_of};
 ghost use Rattle.ring.specs.Number.{next_number};
 
 // Counts up, and is never used again.
-#[derive(Drop)]
+#[derive(Clone, Copy)]
 pub struct RingNumber(pub u64);
 
 // Which place of the pool. Used again.
-#[derive(Drop)]
+#[derive(Clone, Copy)]
 pub struct PlaceNumber(pub usize);
 
-#[derive(Drop)]
+#[derive(Clone, Copy)]
 pub struct Ring {
     pub number: RingNumber,
     pub place: PlaceNumber,
@@ -19,7 +21,7 @@ pub struct Ring {
 }
 
 // A capacity to resize to.
-#[derive(Drop)]
+#[derive(Clone, Copy)]
 pub enum Capacity {
     Of(usize),
     TooLarge,

@@ -3,13 +3,13 @@ ghost use Rattle.std.specs.Prelude.{◌≡◌};
 ghost use Rattle.kinds.specs.Kinds.{kind_of};
 ghost use Rattle.session.specs.Grammar.{flavors_of, new_session, whole_b, to as toOf, wrong as wrongOf, with_places, with_flavor, flavors_read, kind_heard, unused_b, flavor_heard, source_heard, operand_heard, hear_of};
 
-use parts::queue::{Flavor, flavor_of};
 use gate::Request;
 use kinds::{Kind, KindRead, has_operand, has_source, kind_of, request_of};
+use parts::queue::{Flavor, flavor_of};
 use sound::MOST_QUEUES;
 
 // Which number comes next, and those that came before it.
-#[derive(Drop)]
+#[derive(Clone, Copy)]
 pub enum Awaiting {
     Places,
     Queues,
@@ -33,7 +33,7 @@ pub enum Awaiting {
 }
 
 // places: the place count, once it is heard. flavors: 0 FIFO, 1 LIFO; those of queues past the last that there may be are not kept.
-#[derive(Drop)]
+#[derive(Clone, Copy)]
 pub struct Session {
     pub awaiting: Awaiting,
     pub places: u64,
@@ -41,7 +41,7 @@ pub struct Session {
 }
 
 // What a number completes: nothing; a setup; a call; or it is wrong.
-#[derive(Drop)]
+#[derive(Clone, Copy)]
 pub enum Said {
     Nothing,
     Setup { queues: usize },
@@ -49,7 +49,7 @@ pub enum Said {
     Wrong,
 }
 
-#[derive(Drop)]
+#[derive(Clone, Copy)]
 pub struct Told {
     pub session: Session,
     pub said: Said,

@@ -2,8 +2,8 @@
 ghost use Rattle.std.specs.Prelude.{◌≡◌};
 ghost use Rattle.slots.specs.Answer.{answer_words};
 
-use parts::answer::Answer;
 use index::bits;
+use parts::answer::Answer;
 
 pub fn answer_words(answer: Answer) -> [u64; 4]
     ensures { result ≡ answer_words answer }

@@ -1,4 +1,6 @@
 // The words of a queue, of an answer and of a stage, slot by slot. A slot that a stage does not use is 0.
+#![tactic(auto)]
+
 ghost use Rattle.std.specs.Prelude.{◌≡◌};
 ghost use Rattle.slots.specs.Slots.{index_word, index_of, bare as bareOf, with_ring, with_operation, ring_of, same_stage_b};
 
@@ -8,7 +10,7 @@ use ring::{PlaceNumber, Ring, RingNumber};
 pub mod answer;
 pub mod queue;
 
-#[derive(Drop)]
+#[derive(Clone, Copy)]
 pub struct StageWords {
     // 0 idle, 1 push, 2 pop, 3 steal, 4 length, 5 batch from the own queue, 6 and 7 the steps of a batch on its source and on the own queue.
     pub operation: u64,

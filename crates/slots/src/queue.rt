@@ -7,7 +7,7 @@ use crate::{index_of, index_word};
 use parts::queue::{Flavor, Queue, flavor_of};
 use ring::{PlaceNumber, Ring, RingNumber};
 
-#[derive(Drop)]
+#[derive(Clone, Copy)]
 pub struct QueueWords {
     // 0 FIFO, 1 LIFO.
     pub flavor: u64,

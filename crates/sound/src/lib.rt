@@ -1,4 +1,6 @@
 // What soundness asks of the counts, of queues and of a stage.
+#![tactic(auto)]
+
 ghost use Rattle.std.specs.Prelude.{◌≡◌};
 ghost use Rattle.parts.specs.Queues.{queue_in};
 ghost use Rattle.sound.specs.Sound.{counts_b, ring_sound, queue_sound, queues_sound_of};

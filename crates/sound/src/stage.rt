@@ -3,11 +3,11 @@ ghost use Rattle.std.specs.Prelude.{◌≡◌};
 ghost use Rattle.sound.specs.Sound.{named_sound, resize_sound, push_sound, pop_sound, wanted_sound, haul_sound, all_sound, one_sound, take_sound, source_sound, reserve_sound, put_sound, own_sound, numbers_sound, stage_sound};
 
 use crate::kept::kept_sound;
+use keeps::ring_kept;
 use parts::stage::{
     AllStage, Haul, OneStage, OwnStage, PopStage, PushStage, PutStage, ReserveStage, ResizeStage,
     SourceStage, Stage, TakeStage, Wanted,
 };
-use keeps::ring_kept;
 use ring::Ring;
 
 // The source queue exists.

@@ -1,4 +1,6 @@
 // What a stage tells of its next step.
+#![tactic(auto)]
+
 ghost use Rattle.std.specs.Prelude.{◌≡◌};
 ghost use Rattle.stages.specs.Stages.{touched_of, idle_b, resize_claims, push_claims, pop_claims, reserve_claims, own_claims, claims_b};
 

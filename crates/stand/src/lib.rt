@@ -1,16 +1,18 @@
 // How far a session is played, and what the program does at what was said.
+#![tactic(auto)]
+
 ghost use Rattle.std.specs.Prelude.{◌≡◌};
 ghost use Rattle.machine.specs.State.{leaves};
 ghost use Rattle.stand.specs.Stand.{new_stand, stood, lent_of, ask_of, scene, act_of};
 
+use machine::state::{Called, Machine};
 use parts::answer::Answer;
 use parts::queue::Flavor;
-use machine::state::{Called, Machine};
 use player::{Player, Turn};
 use session::grammar::Said;
 
 // at: where the page's text ends.
-#[derive(Drop)]
+#[derive(Clone, Copy)]
 pub struct Stand {
     pub player: Player,
     pub machine: Machine,

@@ -1,13 +1,15 @@
 // Where an operation starts.
+#![tactic(auto)]
+
 ghost use Rattle.std.specs.Prelude.{◌≡◌, ◌-◌};
 ghost use Rattle.starts.specs.Starts.{popping as poppingOf, first_stage};
 
+use gate::Operation;
 use parts::queue::Flavor;
 use parts::stage::{
     BatchKind, FifoPopStage, LengthStage, LifoPopStage, PopStage, Popper, PushStage, SourceStage,
     Stage, StealStage,
 };
-use gate::Operation;
 
 fn popping(flavor: Flavor) -> PopStage
     ensures { result ≡ poppingOf flavor }

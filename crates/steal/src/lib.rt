@@ -1,8 +1,10 @@
 // The answer of an attempt to steal, and its helpers.
+#![tactic(auto)]
+
 ghost use Rattle.std.specs.Prelude.{◌≡◌};
 ghost use Rattle.steal.specs.Steal.{number_of, value_of, is_empty_b, is_success_b, is_retry_b, success_of, or_else, of_number, collected, answers};
 
-#[derive(Drop)]
+#[derive(Clone, Copy)]
 pub enum Steal {
     // The queue was empty.
     Empty,
@@ -13,7 +15,7 @@ pub enum Steal {
 }
 
 // The job of a success.
-#[derive(Drop)]
+#[derive(Clone, Copy)]
 pub enum Success {
     Job(u64),
     Nothing,

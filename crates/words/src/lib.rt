@@ -1,4 +1,6 @@
 // The stages of threads as 64-bit words, and the words of a machine in a row.
+#![tactic(auto)]
+
 pub mod batch;
 pub mod batch_own;
 pub mod batch_source;

@@ -1,4 +1,6 @@
 // Text put on a lent page, from a place on. What lies behind the page's end is left out.
+#![tactic(auto)]
+
 ghost use Rattle.std.specs.Prelude.{◌≡◌, ◌∷◌, []};
 ghost use Rattle.writing.specs.Writing.{page as page_of, put, decimal, signed};
 
