@@ -101,6 +101,7 @@ impl Steal {
     }
 
     // The answer with this number and value; Empty where no answer has the number.
+    #[tactic(auto, unfolding(crate::specs::Steal::of_number))]
     pub fn of(number: u64, value: u64) -> Steal
         ensures { result ≡ of_number number value }
     {
@@ -116,6 +117,7 @@ impl Steal {
 
 // A list of answers, lent as their numbers and their values, put together: the first success; otherwise Retry if there is one; otherwise
 // Empty. Where one of the two is longer its rest is not looked at.
+#[tactic(auto, unfolding(crate::specs::Steal::answers, crate::specs::Steal::collected))]
 pub fn collect(numbers: &[u64], values: &[u64]) -> Steal
     ensures { result ≡ collected (answers numbers.now values.now) }
 {
