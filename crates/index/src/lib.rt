@@ -37,6 +37,7 @@ pub fn signed(u: u64) -> i64
 
 impl Index {
     // The index n further on.
+    #[tactic(auto, unfolding(crate::specs::Index::plus_of, crate::specs::Index::wrap))]
     pub fn plus(self, n: u64) -> Index
         ensures { result ≡ plus_of self n }
     {
@@ -44,6 +45,7 @@ impl Index {
     }
 
     // The index n before.
+    #[tactic(auto, unfolding(crate::specs::Index::minus_of, crate::specs::Index::wrap))]
     pub fn minus(self, n: u64) -> Index
         ensures { result ≡ minus_of self n }
     {
@@ -51,6 +53,7 @@ impl Index {
     }
 
     // This index as back, minus front. Below zero is an answer.
+    #[tactic(auto, unfolding(crate::specs::Index::difference_of, crate::specs::Index::wrap))]
     pub fn difference(self, front: Index) -> i64
         ensures { result ≡ difference_of self front }
     {
@@ -58,6 +61,7 @@ impl Index {
     }
 
     // The difference, and 0 where that is below zero.
+    #[tactic(auto, unfolding(crate::specs::Index::length_of))]
     pub fn length(self, front: Index) -> u64
         ensures { result ≡ length_of self front }
     {
@@ -66,6 +70,7 @@ impl Index {
     }
 
     // The difference is below 0.
+    #[tactic(auto, unfolding(crate::specs::Index::behind_b))]
     pub fn is_behind(self, front: Index) -> bool
         ensures { result ≡ behind_b self front }
     {
@@ -73,6 +78,7 @@ impl Index {
     }
 
     // The difference is 0 or below.
+    #[tactic(auto, unfolding(crate::specs::Index::empty_b))]
     pub fn is_empty(self, front: Index) -> bool
         ensures { result ≡ empty_b self front }
     {
@@ -80,6 +86,7 @@ impl Index {
     }
 
     // The difference is the capacity or above.
+    #[tactic(auto, unfolding(crate::specs::Index::full_b))]
     pub fn is_full(self, front: Index, capacity: usize) -> bool
         ensures { result ≡ full_b self front capacity }
     {
@@ -91,6 +98,7 @@ impl Index {
     }
 
     // The difference is from -1 to the capacity.
+    #[tactic(auto, unfolding(crate::specs::Index::spans_b))]
     pub fn spans(self, front: Index, capacity: usize) -> bool
         ensures { result ≡ spans_b self front capacity }
     {
@@ -101,6 +109,7 @@ impl Index {
         -1 <= d
     }
 
+    #[tactic(auto, unfolding(crate::specs::Index::same_b))]
     pub fn is_same(self, other: Index) -> bool
         ensures { result ≡ same_b self other }
     {
@@ -109,6 +118,7 @@ impl Index {
 
     // The cell of a ring in which the index lies: by a mask where the capacity has exactly one bit set, as every allowed one has; no capacity
     // is turned away.
+    #[tactic(auto, unfolding(crate::specs::Index::cell_of))]
     pub fn cell(self, capacity: usize) -> usize
         ensures { result ≡ cell_of self capacity }
     {

@@ -42,6 +42,7 @@ impl Ring {
     pub const LARGEST: usize = 256;
 
     // A ring may have this capacity: exactly one bit set, and in range.
+    #[tactic(auto, unfolding(crate::specs::Capacity::allowed_b))]
     pub fn allowed(capacity: usize) -> bool
         ensures { result ≡ allowed_b capacity }
     {

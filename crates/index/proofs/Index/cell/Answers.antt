@@ -1,0 +1,15 @@
+-- By the mask the index lies in the cell of its bits; otherwise its magnitude is divided, and counted from the last cell where the index is below zero.
+use Rattle.std.proofs.Common.{◌<◌, mod-lt, arith, rules}
+use Rattle.index.specs.Index.{cell_of}
+use Rattle.index.proofs.Signs.{back, not_below, below}
+use Rattle.index.proofs.Cells.{cell_is, masked}
+use Rattle.index.proofs.Index.cell.Goals as goal
+
+pub returns-then-capacity-eq1 : goal.returns-then-capacity-eq1
+returns-then-capacity-eq1 c =
+    let s = c in
+    let i = s.args.self in
+    let n = s.args.capacity in
+    rw
+    (cell_is i n (omega arith))
+    (masked i.0 n c.bits.result s.ranges.capacity.fits c.if-capacity-eq1.true (rw (back i.0 c.struct_told-1.given.0.1) at c.bits.ensures))
