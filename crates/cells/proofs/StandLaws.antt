@@ -1,6 +1,6 @@
 -- What a ring that stands has in the pool, what a write to one of its cells does to every read, and when a ring stands.
 use mathlib.Core.Path.{◌≡◌, refl, sym, ap, ◌∙◌}
-use mathlib.Core.Bool.{Bool, true, false, not}
+use mathlib.Core.Bool.{Bool, true, false}
 use mathlib.Core.List.{List}
 use mathlib.Core.Logic.{◌≢◌}
 use Prim.Native.Nat.{ℕ, zero, ◌+◌, ◌-◌, ◌*◌, ◌/◌, ◌≤◌, ◌<◌}
@@ -8,7 +8,7 @@ use native.Mathlib.Omega.{arith}
 use lib.Dec.{ltb}
 use lib.ListN.{length, get_or, set, drop, length-set}
 use lib.Seq.{get_or-take, get_or-drop, get_or-set_same, get_or-set_other}
-use borrow.Author.Tests.{ltb-true, lt-ltb, not-true, not-false}
+use borrow.Author.Tests.{ltb-true, lt-ltb}
 use borrow.Rule.Slice.PartMut.{put_mid, mid_of, set_mid_at, mid_len}
 use Rattle.base.specs.Tests.{pick, by_test, both}
 use Rattle.index.specs.declared.Index.{Index}
@@ -50,13 +50,13 @@ unfolding stands_b
 stands_length xs ys r e = rw e
 
 -- the test as the code has it
-pub opened : (b : Bool) (cells : List ℕ) (r : Ring) → b ≡ stands_b cells r → not b ≡ false → stands_b cells r ≡ true
-opened b cells r e t = sym e ∙ not-false b t
+pub opened : (b : Bool) (cells : List ℕ) (r : Ring) → b ≡ stands_b cells r → b ≡ true → stands_b cells r ≡ true
+opened b cells r e t = sym e ∙ t
 
-pub shut : (b : Bool) (cells : List ℕ) (r : Ring) → b ≡ stands_b cells r → not b ≡ true → stands_b cells r ≡ false
-shut b cells r e t = sym e ∙ not-true b t
+pub shut : (b : Bool) (cells : List ℕ) (r : Ring) → b ≡ stands_b cells r → b ≡ false → stands_b cells r ≡ false
+shut b cells r e t = sym e ∙ t
 
-pub opened_standing : (b : Bool) (cells : List ℕ) (r : Ring) → b ≡ stands_b cells r → not b ≡ false → Standing cells r
+pub opened_standing : (b : Bool) (cells : List ℕ) (r : Ring) → b ≡ stands_b cells r → b ≡ true → Standing cells r
 opened_standing b cells r e t = standing cells r (opened b cells r e t)
 
 -- ---- where a cell lies

@@ -11,6 +11,7 @@ use ring::Ring;
 pub const PLACE_CELLS: usize = Ring::LARGEST;
 
 // The pool has the ring's place, and a ring may have its capacity. Of a sound machine's rings and its pool this is always so.
+#[tactic(auto, unfolding(crate::specs::Cells::stands_b))]
 fn stands(pool: &[u64], ring: Ring) -> bool
     ensures { result ≡ stands_b pool.now ring }
 {
@@ -35,6 +36,7 @@ fn put(stretch: &mut [u64], at: usize, job: u64)
 }
 
 // The job in the cell of index i.
+#[tactic(auto, unfolding(crate::specs::Cells::read_of))]
 pub fn read(pool: &[u64], ring: Ring, i: Index) -> u64
     ensures { result ≡ read_of pool.now ring i }
 {
@@ -48,6 +50,7 @@ pub fn read(pool: &[u64], ring: Ring, i: Index) -> u64
 }
 
 // A job is written to the cell of index i.
+#[tactic(auto, unfolding(crate::specs::Cells::written_of))]
 pub fn write(pool: &mut [u64], ring: Ring, i: Index, job: u64)
     ensures { pool.new ≡ written_of pool.old ring i job }
 {

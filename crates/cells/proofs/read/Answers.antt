@@ -1,0 +1,36 @@
+-- A ring that stands has its stretch within the pool, and the index's cell within the stretch; a ring that does not is read as 0.
+use mathlib.Core.Path.{◌∙◌}
+use native.Mathlib.Omega.{arith}
+use borrow.Author.Rules.{rules}
+use Rattle.cells.specs.Cells.{read_of}
+use Rattle.cells.proofs.StandLaws.{opened, shut, opened_standing, at_below, got}
+use Rattle.cells.proofs.read.Goals as goal
+
+pub overflow_mul-start : goal.overflow_mul-start
+overflow_mul-start c =
+    let s = opened_standing _ _ _ c.stands.ensures c.if-not-stands.false in
+    omega arith
+
+pub overflow_add-end : goal.overflow_add-end
+overflow_add-end c =
+    let s = opened_standing _ _ _ c.stands.ensures c.if-not-stands.false in
+    omega arith
+
+pub offset_bounds-pool-start : goal.offset_bounds-pool-start
+offset_bounds-pool-start c =
+    let s = opened_standing _ _ _ c.stands.ensures c.if-not-stands.false in
+    omega arith
+
+pub slice_bounds-get-end : goal.slice_bounds-get-end
+slice_bounds-get-end c =
+    let s = opened_standing _ _ _ c.stands.ensures c.if-not-stands.false in
+    omega arith
+
+pub get-requires : goal.get-requires
+get-requires c =
+    at_below _ _ _ _ (opened _ _ _ c.stands.ensures c.if-not-stands.false) c.cell-at.ensures
+
+pub returns : goal.returns
+returns c =
+    c.get.ensures
+    ∙ got _ _ _ _ (opened _ _ _ c.stands.ensures c.if-not-stands.false) c.cell-at.ensures
