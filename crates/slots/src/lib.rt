@@ -40,6 +40,7 @@ pub struct StageWords {
 }
 
 // An index as its two's complement bits.
+#[tactic(auto, unfolding(crate::specs::Slots::index_of, crate::specs::Slots::index_word, index::specs::Index::wrap))]
 pub fn index_word(i: Index) -> u64
     ensures value { result ≡ index_word i }
     ensures result_value { index_of result ≡ i }
@@ -47,6 +48,7 @@ pub fn index_word(i: Index) -> u64
     bits(i.0)
 }
 
+#[tactic(auto, unfolding(crate::specs::Slots::index_of))]
 pub fn index_of(u: u64) -> Index
     ensures { result ≡ index_of u }
 {
