@@ -13,7 +13,6 @@ use Rattle.model.specs.Stage.{working, nothing, going, ended}
 use Rattle.model.specs.Tables.{Offer, resize_step, reading, shrink_step, fifo_step, lifo_step}
 use Rattle.model.specs.Logical.{lo, hi, held, accepts, gives}
 use Rattle.model.specs.Invariant.{Ok, view}
-use Rattle.model.specs.Memory.{content}
 use Rattle.model.proofs.CountLaws.{stand_front, stand_back}
 use Rattle.model.proofs.Stable.{ev_ends, ev_refl, reach_le, reach_fifo, le_reach}
 use Rattle.model.proofs.Good.{Good, Calm, quiet, ok_rest}

@@ -3,16 +3,14 @@ use mathlib.Core.Path.{refl, sym, ◌∙◌}
 use Prim.Native.Nat.{ℕ, suc, ◌+◌, ◌-◌, ◌≤◌, ◌<◌}
 use native.Mathlib.Omega.{arith}
 use native.Mathlib.Nat.{le_refl}
-use Rattle.model.specs.Stage.{Flavour, fifo, lifo, cell, StealStage, steal_front, steal_back, steal_ring, steal_read, steal_reload}
+use Rattle.model.specs.Stage.{Flavour, fifo, lifo, StealStage, steal_front, steal_back, steal_ring, steal_read, steal_reload}
 use Rattle.model.specs.Stage.{steal_exchange, Wanted, Haul, SourceStage, source_front, source_back, source_ring, source_first, all_copy}
 use Rattle.model.specs.Stage.{all_reload, all_exchange, one_first, one_back, one_read, one_reload, one_exchange, OwnStage, reserve_back}
 use Rattle.model.specs.Stage.{reserve_front, reserve_resize, own_back, all_write, one_write, swap_near, swap_far, swap_put, swap_last}
 use Rattle.model.specs.Stage.{own_store}
 use Rattle.model.specs.Tables.{in_hand, to_hand}
-use Rattle.model.specs.Logical.{lo, hi}
 use Rattle.model.specs.Invariant.{is_fifo, is_lifo, Reach, View, Ev, wide, Span, Ring, Has, StealKnows, Copied, Bulk, BulkRing, Before, Single}
 use Rattle.model.specs.Invariant.{WantedSpan, OwnKnows, SourceKnows}
-use Rattle.model.specs.Memory.{content}
 use Rattle.model.proofs.CountLaws.{stand_cong}
 
 -- ---- evolving

@@ -2,7 +2,7 @@
 use Rattle.std.specs.Prelude.{Bool, true, false, ℕ, ◌<◌, eqb}
 use Rattle.base.specs.Tests.{pick}
 use Rattle.model.specs.Count.{upd}
-use Rattle.model.specs.Stage.{Flavour, fifo, lifo, Queue, push_back, fifo_back, lifo_back, job, own, Popper, byPop, byBatch, steal_front}
+use Rattle.model.specs.Stage.{Flavour, fifo, lifo, Queue, push_back, fifo_back, lifo_back, own, Popper, byPop, byBatch, steal_front}
 use Rattle.model.specs.Stage.{length_back, BatchKind, plain, andPop, source, source_front, Stage, idle, push, fifo_pop, lifo_pop, shrink, steal}
 use Rattle.model.specs.Stage.{len, own_batch, working, Out}
 use Rattle.model.specs.Tables.{Offer, push_step, shrink_step, fifo_step, lifo_step, steal_step, length_step, own_batch_step, source_step, own_step}
