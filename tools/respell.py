@@ -146,7 +146,13 @@ def main():
 
 
 def turned(path, line, turn, theirs):
-    swap = lambda m: m.group(0) if m.group(0) in theirs else turn.get(m.group(0), m.group(0))
+    def swap(m):
+        name, before = m.group(0), m.string[: m.start()]
+        new = turn.get(name, name)
+        # a path and a step are the kit's or the source's, and so are the source's functions
+        ours = new.endswith("_lem") and (before.endswith(".") or path.endswith(".rt"))
+        return name if name in theirs or ours else new
+
     mark = {".antt": "--", ".rt": "//"}.get(os.path.splitext(path)[1])
     if mark is None and not path.endswith(".edit"):
         return re.sub(r"`[^`]*`", lambda m: TOKEN.sub(swap, m.group(0)), line)

@@ -98,7 +98,7 @@ impl StageWords {
         self
     }
 
-    pub fn ring_of_lem(self) -> Ring
+    pub fn ring_of(self) -> Ring
         ensures { result ≡ ring_of self }
     {
         Ring {

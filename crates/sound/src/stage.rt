@@ -104,7 +104,7 @@ fn take_sound(haul: Haul, at: TakeStage) -> bool
     }
 }
 
-fn source_sound_lem(at: SourceStage) -> bool
+fn source_sound(at: SourceStage) -> bool
     ensures { result ≡ source_sound at }
 {
     match at {
@@ -156,7 +156,7 @@ fn numbers_sound(stage: Stage) -> bool
     match stage {
         Stage::Push(_, at) => push_sound(at),
         Stage::Pop(_, at) => pop_sound(at),
-        Stage::BatchSource(_, at) => source_sound_lem(at),
+        Stage::BatchSource(_, at) => source_sound(at),
         Stage::BatchOwn(_, at) => own_sound(at),
         _ => true,
     }

@@ -93,7 +93,7 @@ pub fn haul_of(w: StageWords) -> Haul
     ensures { result ≡ haul_of w }
 {
     Haul {
-        ring: w.ring_of_lem(),
+        ring: w.ring_of(),
         f: index_of(w.f),
         n: w.n,
         b: index_of(w.b),

@@ -46,7 +46,7 @@ pub fn resize_of(w: StageWords) -> ResizeStage
     if step == 11 {
         return ResizeStage::LoadFront { capacity, b };
     }
-    let ring = w.ring_of_lem();
+    let ring = w.ring_of();
     if step == 12 {
         return ResizeStage::Copy {
             b,

@@ -58,7 +58,7 @@ pub fn steal_of(w: StageWords) -> StealStage
     if step == 2 {
         return StealStage::LoadRing { f };
     }
-    let ring = w.ring_of_lem();
+    let ring = w.ring_of();
     if step == 3 {
         return StealStage::Read { f, ring };
     }

@@ -1,7 +1,7 @@
 -- Each arm of `source_sound_lem` is its clause of `source_sound`, by what its calls ensure.
 use Rattle.std.proofs.Common.{rules}
-use Rattle.sound.proofs.stage.source_sound_lem.Statement.{statement}
-use Rattle.sound.proofs.stage.source_sound_lem.Tie as tie
+use Rattle.sound.proofs.stage.source_sound.Statement.{statement}
+use Rattle.sound.proofs.stage.source_sound.Tie as tie
 
 enum_told : tie.Need-enum-told
 enum_told c = search rules
