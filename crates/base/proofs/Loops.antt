@@ -1,9 +1,8 @@
 -- A loop that asks f of each number below n and stops where f does not hold. b is what the code found at i.
 use Prim.Native.Nat.{ℕ, ◌+◌, ◌≤◌, ◌<◌}
 use native.Mathlib.Omega.{arith}
-use mathlib.Core.Bool.{Bool, true, false, not}
+use mathlib.Core.Bool.{Bool, true, false}
 use mathlib.Core.Path.{◌≡◌, sym, ◌∙◌}
-use borrow.Author.Tests.{not-true, not-false}
 use Rattle.base.specs.Below.{all_below}
 use Rattle.base.proofs.BelowLaws.{all_none, all_next, all_not}
 
@@ -15,11 +14,11 @@ module _ (n : ℕ) (f : ℕ → Bool) where
   pub all_begins : AllTo n f 0
   all_begins = (omega arith, all_none f)
 
-  pub all_stops : (i : ℕ) (b : Bool) → i < n → b ≡ f i → not b ≡ true → false ≡ all_below n f
-  all_stops i b l e t = sym (all_not n i f l (sym e ∙ not-true b t))
+  pub all_stops : (i : ℕ) (b : Bool) → i < n → b ≡ f i → b ≡ false → false ≡ all_below n f
+  all_stops i b l e t = sym (all_not n i f l (sym e ∙ t))
 
-  pub all_goes : (i : ℕ) (b : Bool) → i < n → AllTo n f i → b ≡ f i → not b ≡ false → AllTo n f (i + 1)
-  all_goes i b l h e t = (omega arith, all_next i f h.1 (sym e ∙ not-false b t))
+  pub all_goes : (i : ℕ) (b : Bool) → i < n → AllTo n f i → b ≡ f i → b ≡ true → AllTo n f (i + 1)
+  all_goes i b l h e t = (omega arith, all_next i f h.1 (sym e ∙ t))
 
   pub all_ends : (i : ℕ) → AllTo n f i → n ≤ i → true ≡ all_below n f
   all_ends i h l = let e : n ≡ i = omega arith in rw e (sym h.1)
