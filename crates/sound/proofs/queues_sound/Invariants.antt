@@ -1,8 +1,8 @@
 -- The invariant: the first i queues are sound.
-use Rattle.std.proofs.Common.{◌-◌, ap, ◌∙◌, arith, rules}
+use Rattle.std.proofs.Common.{◌-◌}
 use Rattle.parts.specs.Queues.{queue_in}
 use Rattle.sound.specs.Sound.{queue_sound}
-use Rattle.base.proofs.Loops.{AllTo, all_begins, all_stops, all_goes, all_ends}
+use Rattle.base.proofs.Loops.{AllTo}
 use Rattle.sound.proofs.queues_sound.Given as goal
 
 abbrev pub invariant-loop-i : goal.invariant-loop-i

@@ -1,9 +1,5 @@
 -- The invariant: each of the first i is apart from all.
-use Rattle.std.proofs.Common.{◌-◌, arith, rules}
-use Rattle.base.specs.Below.{all_below}
-use Rattle.parts.specs.Queues.{queue_in}
-use Rattle.places.specs.Places.{kept_in, apart_of}
-use Rattle.base.proofs.Loops.{AllTo, all_begins, all_stops, all_goes, all_ends}
+use Rattle.base.proofs.Loops.{all_begins, all_stops, all_goes}
 use Rattle.places.proofs.apart.all_apart.Goals as goal
 
 pub loop-i-init : goal.loop-i-init

@@ -1,8 +1,8 @@
 -- The invariant: i is apart from each of the first j.
-use Rattle.std.proofs.Common.{◌-◌, arith, rules}
+use Rattle.std.proofs.Common.{◌-◌}
 use Rattle.parts.specs.Queues.{queue_in}
 use Rattle.places.specs.Places.{kept_in, apart_of}
-use Rattle.base.proofs.Loops.{AllTo, all_begins, all_stops, all_goes, all_ends}
+use Rattle.base.proofs.Loops.{AllTo}
 use Rattle.places.proofs.apart.apart_from.Given as goal
 
 abbrev pub invariant-loop-j : goal.invariant-loop-j

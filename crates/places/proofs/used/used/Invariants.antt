@@ -1,7 +1,6 @@
 -- The invariant: none of the first i uses the place.
-use Rattle.std.proofs.Common.{◌≡◌, ◌-◌, ◌≤◌, false, sym, ◌∙◌, arith, rules}
+use Rattle.std.proofs.Common.{◌≡◌, ◌-◌, ◌≤◌, false}
 use Rattle.base.specs.Below.{any_below}
-use Rattle.base.proofs.BelowLaws.{any_none, any_next, any_at}
 use Rattle.parts.specs.Queues.{queue_in}
 use Rattle.places.specs.Places.{kept_in, used_by_of}
 use Rattle.places.proofs.used.used.Given as goal
