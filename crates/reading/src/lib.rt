@@ -76,6 +76,7 @@ fn is_blank(byte: u8) -> bool
     (9 <= byte) & (byte <= 13)
 }
 
+#[tactic(auto, unfolding(crate::specs::Reading::class_of))]
 pub fn class_of(byte: u8) -> Class
     ensures { result ≡ class_of byte }
 {
@@ -97,6 +98,7 @@ pub fn class_of(byte: u8) -> Class
     Class::Other
 }
 
+#[tactic(auto, unfolding(crate::specs::Reading::grown_of))]
 pub fn with_digit(value: u64, digit: u64) -> Grown
     ensures { result ≡ grown_of value digit }
 {
@@ -184,6 +186,7 @@ impl Reader {
     }
 
     // One byte more.
+    #[tactic(auto, unfolding(crate::specs::Reading::heard_of))]
     pub fn byte(self, byte: u8) -> Heard
         ensures { result ≡ heard_of self byte }
     {
