@@ -1,19 +1,8 @@
 -- What is known of text put on a page.
-use mathlib.Core.Path.{◌≡◌, refl, ap, ◌∙◌}
-use mathlib.Core.List.{List, [], ◌∷◌, ◌++◌}
-use Prim.Native.Nat.{ℕ, zero, suc, ◌+◌, ◌-◌, ◌^◌, ◌≤◌, ◌<◌}
-use native.Mathlib.Numerals.{add-one}
-use native.Mathlib.Nat.{pow-le-pow_right}
-use native.Mathlib.Omega.{arith}
-use mathlib.Core.Logic.{⊎_elim}
+use Rattle.std.proofs.Common.{◌≡◌, refl, sym, ap, ◌∙◌, List, [], ◌∷◌, ◌++◌, ℕ, zero, suc, ◌+◌, ◌*◌, ◌/◌, ◌%◌, ◌^◌, ◌≤◌, ◌<◌, ℤ, pos, negsuc, ⊎_elim, length, length-append, length-set, drop, get_or, set, drop_of_length-le, drop-cons, add-one, arith, ltb, lt-ltb, le-ltb}
+use lib.Seq.{set_out, sets, sets-eq}
 use Rattle.base.specs.Tests.{pick, le_or_lt, by_test, tests}
-use lib.Dec.{ltb}
-use Rattle.io.specs.Digits.{last_digits, IsDigitCount}
-use lib.IntN.{ℤ, pos, negsuc}
-use lib.ListN.{length, length-append, length-set, drop, get_or, set, drop_of_length-le}
-use lib.Seq.{drop-cons, set_out, sets, sets-eq}
-use borrow.Author.Tests.{lt-ltb, le-ltb}
-use Rattle.writing.specs.Writing.{Page, page, put, whole, width_from, decimal, signed}
+use Rattle.writing.specs.Writing.{Page, page, put, whole, width_from, last_digits, decimal, signed}
 
 pub put_none : (p : List ℕ) (at : ℕ) → put p at [] ≡ page p at
 unfolding put
@@ -44,7 +33,7 @@ put_next p at text i p' at' l e =
 put_append : (p : List ℕ) (at : ℕ) (xs ys : List ℕ) → put (put p at xs).bytes (put p at xs).at ys ≡ put p at (xs ++ ys)
 unfolding put
 put_append p at [] ys = refl
-put_append p at (x ∷ xs) ys = put_append _ _ xs ys
+put_append p at (x ∷ xs) ys = put_append (set p at x) (pick (ltb at (length p)) (at + 1) (length p)) xs ys
 
 pub put_then : (p : List ℕ) (at : ℕ) (xs ys p' : List ℕ) (at' : ℕ) → page p' at' ≡ put p at xs → put p' at' ys ≡ put p at (xs ++ ys)
 put_then p at xs ys p' at' e = ap (λ (w : Page). put w.bytes w.at ys) e ∙ put_append p at xs ys
@@ -72,42 +61,39 @@ put_sets p at (b ∷ bs) h =
 pub put_whole : (p : List ℕ) (at : ℕ) (text : List ℕ) → at + length text ≤ length p → put p at text ≡ whole p at text
 put_whole p at text h = put_sets p at text h ∙ ap (λ (l : List ℕ). page l (at + length text)) (sets-eq text p at h)
 
--- ---- numbers
+-- ---- numbers: the last digit lies behind those of the tenth
 
-ten_to : {i j : ℕ} → i ≤ j → 10 ^ i ≤ 10 ^ j
-ten_to h = pow-le-pow_right (omega arith) h
+ten_more : (k : ℕ) → 10 ^ (k + 1) ≡ 10 * 10 ^ k
+ten_more k = rw (add-one k) (omega arith)
 
--- j digits hold n, and no fewer than k do
-no_fewer : (j n k : ℕ) → IsDigitCount 10 1 n k → j ≤ k → 1 ≤ j → n < 10 ^ j → j ≡ k
-no_fewer j n k w l o b = ⊎_elim (λ (h : k ≤ j). omega arith) (λ (h : j < k). absurd (clash h)) (le_or_lt k j)
-  where
-    clash : j < k → ⊥
-    clash h = let t : 10 ^ j ≤ 10 ^ (k - 1) = ten_to (omega arith) in let u : 10 ^ (k - 1) ≤ n = w.2 (omega arith) in omega arith
-
--- j digits do not hold n
-more : (j n k : ℕ) → IsDigitCount 10 1 n k → 10 ^ j ≤ n → j + 1 ≤ k
-more j n k w b = ⊎_elim (λ (h : k ≤ j). absurd (clash h)) (λ (h : j < k). omega arith) (le_or_lt k j)
-  where
-    clash : k ≤ j → ⊥
-    clash h = let t : 10 ^ k ≤ 10 ^ j = ten_to h in let u : n < 10 ^ k = w.1 in omega arith
-
--- the fewest digits that hold n, looked for from j on
-width_is : (f j n k : ℕ) → IsDigitCount 10 1 n k → 1 ≤ j → j ≤ k → k ≤ j + f → width_from f j n ≡ k
+width_tenth : (f k n : ℕ) → width_from f (k + 1) n ≡ width_from f k (n / 10) + 1
 unfolding width_from
-width_is zero j n k w o l h = omega arith
-width_is (suc f) j n k w o l h =
-    by_test (λ x. x ≡ k) (ltb n (10 ^ j)) j (width_from f (j + 1) n) (λ t. no_fewer j n k w l o (omega tests))
-    (λ t. width_is f (j + 1) n k w (omega arith) (more j n k w (omega tests)) (omega arith))
+width_tenth zero k n = refl
+width_tenth (suc f) k n =
+    let e : 10 ^ (k + 1) ≡ 10 * 10 ^ k = ten_more k in
+    ⊎_elim
+    (λ (h : 10 ^ k ≤ n / 10). rw (le-ltb n (10 ^ (k + 1)) (omega arith), le-ltb (n / 10) (10 ^ k) h) (width_tenth f (k + 1) n))
+    (λ (h : n / 10 < 10 ^ k). rw (lt-ltb n (10 ^ (k + 1)) (omega arith), lt-ltb (n / 10) (10 ^ k) h))
+    (le_or_lt (10 ^ k) (n / 10))
 
-at_most_20 : (n k : ℕ) → IsDigitCount 10 1 n k → n < 2 ^ 64 → k ≤ 20
-at_most_20 n k w h = ⊎_elim (λ (l : k ≤ 20). l) (λ (l : 20 < k). absurd (clash l)) (le_or_lt k 20)
-  where
-    clash : 20 < k → ⊥
-    clash l = let t : 10 ^ 20 ≤ 10 ^ (k - 1) = ten_to {i = 20} (omega arith) in let u : 10 ^ (k - 1) ≤ n = w.2 (omega arith) in omega arith
+-- a digit more at most finds no more in a number that fewer hold
+width_same : (f k n : ℕ) → n < 10 ^ (k + f) → width_from (suc f) k n ≡ width_from f k n
+unfolding width_from
+width_same zero k n h = let e : k + 0 ≡ k = omega arith in rw (lt-ltb n (10 ^ k) (rw e at h))
+width_same (suc f) k n h =
+    let e : k + suc f ≡ k + 1 + f = omega arith in
+    ap (pick (ltb n (10 ^ k)) k) (width_same f (k + 1) n (rw e at h))
 
-pub decimal_is : (n k : ℕ) → IsDigitCount 10 1 n k → n < 2 ^ 64 → last_digits 10 k n ≡ decimal n
-unfolding decimal
-decimal_is n k w h = let l : k ≤ 20 = at_most_20 n k w h in rw (width_is 19 1 n k w (omega arith) w.0 (omega arith))
+pub decimal_one : (n : ℕ) → n < 10 → decimal n ≡ (48 + n) ∷ []
+unfolding decimal width_from
+decimal_one n h = let e : n % 10 ≡ n = omega arith in rw (lt-ltb n 10 h, e)
+
+pub decimal_next : (n : ℕ) → 10 ≤ n → n < 2 ^ 64 → decimal n ≡ decimal (n / 10) ++ ((48 + n % 10) ∷ [])
+unfolding decimal width_from
+decimal_next n h l =
+    let t : n / 10 < 10 ^ 19 = omega arith in
+    let w : width_from 18 2 n ≡ suc (width_from 19 1 (n / 10)) = width_tenth 18 1 n ∙ add-one _ ∙ ap suc (sym (width_same 18 1 (n / 10) t)) in
+    rw (le-ltb n 10 h) (ap (λ k. last_digits 10 k n) w)
 
 -- ---- lengths: a number has at most 20 digits, and a sign before them
 

@@ -1,8 +1,7 @@
 -- Text put on a page, and numbers as text.
-use Rattle.std.specs.Prelude.{ℕ, zero, suc, ◌+◌, ◌^◌, List, [], ◌∷◌, ◌++◌, ltb, ℤ, pos, negsuc, length, take, drop, set}
+use Rattle.std.specs.Prelude.{ℕ, zero, suc, ◌+◌, ◌/◌, ◌%◌, ◌^◌, List, [], ◌∷◌, ◌++◌, ltb, ℤ, pos, negsuc, length, take, drop, set}
 use Prim.Native.Char.{code}
 use Prim.Native.String.{String, [] as end, ◌∷◌ as ◌then◌}
-use Rattle.io.specs.Digits.{last_digits}
 use Rattle.base.specs.Tests.{pick}
 
 -- the page, and the place behind what was put on it
@@ -31,6 +30,11 @@ ascii (c then s) = code c ∷ ascii s
 unfoldable pub width_from : ℕ → ℕ → ℕ → ℕ
 width_from zero k n = k
 width_from (suc f) k n = pick (ltb n (10 ^ k)) k (width_from f (k + 1) n)
+
+-- the last k digits of n in base b, which is 10 at most, the most significant first
+abbrev pub last_digits : ℕ → ℕ → ℕ → List ℕ
+last_digits b zero n = []
+last_digits b (suc k) n = last_digits b k (n / b) ++ ((48 + n % b) ∷ [])
 
 -- a number below 10^20 in decimal digits, none in front that it can do without
 unfoldable pub decimal : ℕ → List ℕ
