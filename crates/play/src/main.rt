@@ -2,44 +2,44 @@
 #![tactic(auto)]
 
 ghost use Rattle.std.specs.Prelude.{◌≡◌, true, ◌⊎◌, ◌≤◌, length};
-ghost use Rattle.io.specs.Counts.{IsPrefixLen};
 ghost use Rattle.writing.specs.Writing.{page as page_of, whole};
 ghost use Rattle.line.specs.Line.{longest_line, Room};
 ghost use Rattle.player.specs.Player.{end_text};
 ghost use Rattle.stand.specs.Stand.{act_text};
 
 use cells::PLACE_CELLS;
-use libc::{STDIN_FILENO, STDOUT_FILENO};
 use line::LONGEST_LINE;
 use player::{Player, Turn, close};
 use sound::MOST_PLACES;
 use stand::Stand;
+use std::io::Read;
 
 // A place on the page, and no more than its end.
 fn on_page(at: usize, page: &[u8]) -> usize
-    ensures { IsPrefixLen result page.now }
+    ensures { result ≤ length page.now }
 {
     if at < page.len() { at } else { page.len() }
 }
 
-fn write_page(page: &[u8], at: usize) -> bool {
+fn write_page(rt: &impl Print, page: &[u8], at: usize) -> bool {
     let end = on_page(at, page);
-    io::write_all(STDOUT_FILENO, &page[..end])
+    rt.write_all(&page[..end]).is_ok()
 }
 
 // Writes a page that has no room for another line, and begins it anew.
-fn turn_page(page: &[u8], at: usize) -> usize
+fn turn_page(rt: &impl Print, page: &[u8], at: usize) -> usize
     requires { longest_line ≤ length page.now }
     ensures { Room page.now result }
 {
     if at <= page.len() - LONGEST_LINE {
         return at;
     }
-    write_page(page, at);
+    write_page(rt, page, at);
     0
 }
 
 // With room for a line, what is printed is put on the page whole; and so at the text's end.
+#[tactic(auto, using(stand::proofs::ActLaws::act_whole))]
 fn act_whole(stand: Stand, turn: Turn, pool: &mut [u64], page: &mut [u8]) -> Stand
     requires { Room page.old stand.at }
     ensures { page_of page.new result.at ≡ whole page.old stand.at (act_text stand turn pool.old) }
@@ -47,6 +47,7 @@ fn act_whole(stand: Stand, turn: Turn, pool: &mut [u64], page: &mut [u8]) -> Sta
     stand.act(turn, pool, page)
 }
 
+#[tactic(auto, using(player::proofs::PlayerLaws::close_whole))]
 fn close_whole(player: Player, page: &mut [u8], at: usize) -> usize
     requires { Room page.old at }
     ensures { page_of page.new result ≡ whole page.old at (end_text player) }
@@ -54,7 +55,14 @@ fn close_whole(player: Player, page: &mut [u8], at: usize) -> usize
     close(player, page, at)
 }
 
-fn play_part(mut stand: Stand, part: &[u8], pool: &mut [u64], page: &mut [u8]) -> Stand
+#[tactic(auto, using(player::proofs::PlayerLaws::listen_within, player::proofs::PlayerLaws::listen_some))]
+fn play_part(
+    rt: &impl Print,
+    mut stand: Stand,
+    part: &[u8],
+    pool: &mut [u64],
+    page: &mut [u8],
+) -> Stand
     requires { Room page.old stand.at }
     ensures { (result.is_over ≡ true) ⊎ Room page.new result.at }
 {
@@ -66,42 +74,40 @@ fn play_part(mut stand: Stand, part: &[u8], pool: &mut [u64], page: &mut [u8]) -
         if stand.is_over {
             return stand;
         }
-        stand.at = turn_page(page, stand.at);
+        stand.at = turn_page(rt, page, stand.at);
     }
     stand
 }
 
 // At the text's end its last number may yet say something; then a session that is cut off is none.
-fn play_end(mut stand: Stand, pool: &mut [u64], page: &mut [u8])
+fn play_end(rt: &impl Print, mut stand: Stand, pool: &mut [u64], page: &mut [u8])
     requires { Room page.old stand.at }
 {
     stand = act_whole(stand, stand.player.finish(), pool, page);
     if stand.is_over {
-        write_page(page, stand.at);
+        write_page(rt, page, stand.at);
         return;
     }
-    let at = turn_page(page, stand.at);
+    let at = turn_page(rt, page, stand.at);
     let end = close_whole(stand.player, page, at);
-    write_page(page, end);
+    write_page(rt, page, end);
 }
 
-// A proved loop has to end, and nothing says that a text does: so it counts its turns down, from a number that no run uses up.
-fn main() {
-    let mut text = io::large_buffer();
-    let mut page = io::large_buffer();
+// A proved loop has to end, and nothing says that a text does: so it has a number of turns that no run uses up. A read that fails ends the text.
+fn main(rt: HostRuntime) {
+    let mut text = [0u8; 65536];
+    let mut page = [0u8; 65536];
     let mut pool = [0u64; MOST_PLACES * PLACE_CELLS];
     let mut stand = Stand::new();
-    let mut turns = u64::MAX;
-    while turns > 0 {
-        turns -= 1;
-        let n = io::count(libc::read(STDIN_FILENO, &mut text), &text);
+    for _ in 0..u64::MAX {
+        let n = rt.stdin().read(&mut text).unwrap_or(0);
         if n == 0 {
-            play_end(stand, &mut pool, &mut page);
+            play_end(&rt, stand, &mut pool, &mut page);
             return;
         }
-        stand = play_part(stand, &text[..n], &mut pool, &mut page);
+        stand = play_part(&rt, stand, &text[..n], &mut pool, &mut page);
         if stand.is_over {
-            write_page(&page, stand.at);
+            write_page(&rt, &page, stand.at);
             return;
         }
     }
