@@ -39,7 +39,6 @@ fn turn_page(rt: &impl Print, page: &[u8], at: usize) -> usize
 }
 
 // With room for a line, what is printed is put on the page whole; and so at the text's end.
-#[tactic(auto, using(stand::proofs::ActLaws::act_whole))]
 fn act_whole(stand: Stand, turn: Turn, pool: &mut [u64], page: &mut [u8]) -> Stand
     requires { Room page.old stand.at }
     ensures { page_of page.new result.at ≡ whole page.old stand.at (act_text stand turn pool.old) }
