@@ -25,6 +25,7 @@ pub enum KindRead {
     Wrong,
 }
 
+#[tactic(auto, unfolding(crate::specs::Kinds::kind_of))]
 pub fn kind_of(number: u64) -> KindRead
     ensures { result ≡ kind_of number }
 {
