@@ -117,6 +117,7 @@ fn is_stage(words: &[u64], at: usize) -> bool
 }
 
 // Words that a machine has, sound or not.
+#[tactic(auto, unfolding(crate::specs::Slices::machine_b))]
 pub fn is_machine(words: &[u64]) -> bool
     ensures { result ≡ machine_b words.now }
 {
