@@ -1,9 +1,7 @@
 -- A ring that stands has its stretch within the pool, and the index's cell within the stretch; a ring that does not is read as 0.
 use mathlib.Core.Path.{◌∙◌}
 use native.Mathlib.Omega.{arith}
-use borrow.Author.Rules.{rules}
-use Rattle.cells.specs.Cells.{read_of}
-use Rattle.cells.proofs.StandLaws.{opened, shut, opened_standing, at_below, got}
+use Rattle.cells.proofs.StandLaws.{opened, opened_standing, at_below, got}
 use Rattle.cells.proofs.read.Goals as goal
 
 pub overflow_mul-start : goal.overflow_mul-start

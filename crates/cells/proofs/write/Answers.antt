@@ -1,8 +1,6 @@
 -- A job put into the cell of a standing ring's stretch is written to the pool; a ring that does not stand leaves the pool as it was.
 use native.Mathlib.Omega.{arith}
-use borrow.Author.Rules.{rules}
-use Rattle.cells.specs.Cells.{written_of}
-use Rattle.cells.proofs.StandLaws.{opened, shut, opened_standing, at_below, put_back_lem}
+use Rattle.cells.proofs.StandLaws.{opened, opened_standing, at_below, put_back_lem}
 use Rattle.cells.proofs.write.Goals as goal
 
 pub overflow_mul-start : goal.overflow_mul-start

@@ -1,11 +1,10 @@
 -- Before each turn the answer so far is that of the first i numbers and values, so at the end it is that of all.
-use mathlib.Core.Path.{◌≡◌, refl, ap, ◌∙◌}
-use Prim.Native.Nat.{◌-◌, ◌≤◌, ◌<◌}
+use mathlib.Core.Path.{ap, ◌∙◌}
+use Prim.Native.Nat.{◌<◌}
 use native.Mathlib.Omega.{arith}
 use native.Mathlib.Numerals.{add-one}
-use borrow.Author.Rules.{rules}
-use lib.ListN.{take, length}
-use Rattle.steal.specs.Steal.{collected, answers}
+use lib.ListN.{length}
+use Rattle.steal.specs.Steal.{collected}
 use Rattle.steal.proofs.Lists.{collected_snoc, answers_suc, answers_short, answers_all}
 use Rattle.steal.proofs.collect.Goals as goal
 

@@ -1,12 +1,8 @@
 -- Before each turn the answer so far is that of the first i numbers and values, so at the end it is that of all.
-use mathlib.Core.Path.{◌≡◌, refl, ap, ◌∙◌}
-use Prim.Native.Nat.{◌-◌, ◌≤◌, ◌<◌}
-use native.Mathlib.Omega.{arith}
-use native.Mathlib.Numerals.{add-one}
-use borrow.Author.Rules.{rules}
+use mathlib.Core.Path.{◌≡◌}
+use Prim.Native.Nat.{◌-◌, ◌≤◌}
 use lib.ListN.{take, length}
 use Rattle.steal.specs.Steal.{collected, answers}
-use Rattle.steal.proofs.Lists.{collected_snoc, answers_suc, answers_short, answers_all}
 use Rattle.steal.proofs.collect.Given as goal
 
 abbrev pub invariant-loop-i : goal.invariant-loop-i

@@ -1,7 +1,6 @@
 -- By the mask the index lies in the cell of its bits; otherwise its magnitude is divided, and counted from the last cell where the index is below zero.
-use Rattle.std.proofs.Common.{◌<◌, mod-lt, arith, rules}
-use Rattle.index.specs.Index.{cell_of}
-use Rattle.index.proofs.Signs.{back, not_below, below}
+use Rattle.std.proofs.Common.{arith}
+use Rattle.index.proofs.Signs.{back}
 use Rattle.index.proofs.Cells.{cell_is, masked}
 use Rattle.index.proofs.Index.cell.Goals as goal
 

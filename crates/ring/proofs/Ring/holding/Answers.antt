@@ -1,7 +1,6 @@
 -- The loop's capacity is a power of two, and is the smallest one or less than twice what is needed, so the first that holds it is the least that does.
-use Rattle.std.proofs.Common.{◌≡◌, ℕ, suc, ◌+◌, ◌-◌, ◌*◌, ◌^◌, ◌<◌, ◌≤◌, Bool, true, false, not, leb, ◌⊎◌, sym, refl, ◌∙◌, inl, inr, pow-suc, arith, rules, leb-false, leb-true}
-use borrow.Author.Tests.{not-true, not-false}
-use Rattle.ring.specs.Capacity.{smallest, largest}
+use Rattle.std.proofs.Common.{◌≡◌, ℕ, suc, ◌<◌, ◌≤◌, Bool, true, false, leb, sym, refl, ◌∙◌, inl, inr, pow-suc, arith, leb-false, leb-true}
+use Rattle.ring.specs.Capacity.{largest}
 use Rattle.ring.proofs.CapacityLaws.{smallest_power, least_of, holding_is, holding_over}
 use Rattle.ring.proofs.Ring.holding.Goals as goal
 

@@ -1,5 +1,5 @@
 -- Twice the capacity is above the largest exactly where the capacity is above half the largest, which is even.
-use Rattle.std.proofs.Common.{sym, arith, rules}
+use Rattle.std.proofs.Common.{sym, arith}
 use Rattle.ring.proofs.CapacityLaws.{twice_below, twice_above}
 use Rattle.ring.proofs.Ring.twice.Goals as goal
 
