@@ -73,6 +73,7 @@ impl Player {
     }
 
     // Reads a part of the text up to the end of a number, or all of it.
+    #[tactic(auto, unfolding(crate::specs::Player::listen_of))]
     pub fn listen(self, part: &[u8]) -> Turn
         ensures { result ≡ listen_of self part.now }
     {
@@ -85,6 +86,7 @@ impl Player {
     }
 
     // The text is at its end.
+    #[tactic(auto, unfolding(crate::specs::Player::finish_of))]
     pub fn finish(self) -> Turn
         ensures { result ≡ finish_of self }
     {

@@ -1,0 +1,13 @@
+-- Each part goes behind the last.
+use Rattle.std.proofs.Common.{◌∙◌}
+use Rattle.writing.proofs.WritingLaws.{put_then}
+use Rattle.line.proofs.put_call.Goals as goal
+
+pub returns : goal.returns
+returns c =
+    c.put_text.ensures
+    ∙ put_then _ _ _ _ _ _ c.put_queue_if-e.ensures
+    ∙ put_then _ _ _ _ _ _ c.put_queue_if-d.ensures
+    ∙ put_then _ _ _ _ _ _ c.put_queue_if-c.ensures
+    ∙ put_then _ _ _ _ _ _ c.put_queue_if-b.ensures
+    ∙ put_then _ _ _ _ _ _ c.put_answer-a.ensures
