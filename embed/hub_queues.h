@@ -1,4 +1,4 @@
-/* The hub's work-stealing queues for firmware: link with target/staticlib/libhub_queues.a. docs/EMBEDDING.md says how to use them.
+/* The hub's work-stealing queues for firmware: embed/library builds what to link with. docs/EMBEDDING.md says how to use them.
 
    The caller lends stretches of memory, each during a call alone: the machine's words, the pool's cells, the words of the answer. They must be
    aligned for uint64_t, must not be null and must not overlap, and nobody else may touch them during the call. One call at a time. */

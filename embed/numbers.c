@@ -1,6 +1,6 @@
 /* The numbers that cross the interface: every kind of call, every kind of answer and every number of 01's table is had once. A line has the names of
    hub_queues.h with the values that they have there and, behind the colon, the four words that were answered. embed/numbers.lines has these lines with
-   the numbers written out, those of `told` and `refusalOf` in crates/core/specs/Answers.antt; no name of the header is compared with itself. */
+   the numbers written out, those of `told` and `refusal_of` in crates/parts/specs/Answers.antt; no name of the header is compared with itself. */
 #include "hub_queues.h"
 
 int printf(const char *format, ...);

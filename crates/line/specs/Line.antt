@@ -24,7 +24,7 @@ answer_text Nothing = ascii "nothing"
 answer_text (Stolen s) = stolen_text s
 answer_text Moved = ascii "moved"
 answer_text (Length d n) = ascii "length " ++ (signed d ++ (ascii " " ++ decimal n))
-answer_text (GaveUp s) = ascii "gave_up " ++ decimal (shortage_of s)
+answer_text (GaveUp s) = ascii "gave-up " ++ decimal (shortage_of s)
 answer_text (Refused r) = ascii "refused " ++ decimal (refusal_of r)
 
 -- a number behind a space

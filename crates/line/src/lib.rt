@@ -52,7 +52,7 @@ fn put_answer(page: &mut [u8], at: usize, answer: Answer) -> usize
         Answer::Stolen(stolen) => put_stolen(page, at, stolen),
         Answer::Moved => put_text(page, at, b"moved"),
         Answer::Length { difference, length } => put_length(page, at, difference, length),
-        Answer::GaveUp(shortage) => put_told(page, at, b"gave_up ", shortage.number()),
+        Answer::GaveUp(shortage) => put_told(page, at, b"gave-up ", shortage.number()),
         Answer::Refused(refusal) => put_told(page, at, b"refused ", refusal.number()),
     }
 }
