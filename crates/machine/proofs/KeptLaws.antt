@@ -1,5 +1,5 @@
 -- The row of what the four threads keep gives what each thread keeps, and so what is asked of the row is asked of the threads.
-use Rattle.std.proofs.Common.{◌≡◌, ℕ, zero, suc, ◌≤◌, Bool, ◌&&◌, List, [], ◌∷◌, map, length, get_or, sym, refl, ap, ◌∙◌, arith}
+use Rattle.std.proofs.Common.{◌≡◌, ℕ, zero, suc, ◌≤◌, Bool, ◌&&◌, List, [], ◌∷◌, length, get_or, sym, refl, ap, ◌∙◌, arith}
 use Rattle.keeps.specs.declared.Kept.{Kept}
 use Rattle.keeps.specs.Kept.{kept_of}
 use Rattle.places.specs.Places.{kept_in, all_apart_of, free_place_of}
@@ -11,7 +11,7 @@ use Rattle.machine.specs.Claim.{free_place}
 use Rattle.machine.proofs.StateLaws.{none_at}
 
 -- past the end there is no thread, and nothing is kept
-module _ {ℓ} {B : Type ℓ} (l : List Thread) (f : Thread → B) (size : length (map f l) ≡ 4) where
+module _ (l : List Thread) (size : length l ≡ 4) where
   abbrev keeps : ℕ → Kept
   keeps t = kept_of (get_or l t idle_thread).stage
 
@@ -22,7 +22,7 @@ module _ {ℓ} {B : Type ℓ} (l : List Thread) (f : Thread → B) (size : lengt
   each_kept (suc (suc (suc zero))) = refl
   each_kept (suc (suc (suc (suc t)))) =
       let past : 4 ≤ suc (suc (suc (suc t))) = omega arith in
-      sym (ap (λ x. kept_of x.stage) (none_at l f size past idle_thread))
+      sym (ap (λ x. kept_of x.stage) (none_at l size past idle_thread))
 
   pub row_kept : kept_in (keeps 0 ∷ keeps 1 ∷ keeps 2 ∷ keeps 3 ∷ []) ≡ keeps
   row_kept i t = each_kept t i

@@ -32,6 +32,7 @@ impl Machine {
         self.with_stage(thread, first_stage(flavor, own, operation))
     }
 
+    #[tactic(auto, unfolding(crate::specs::Begin::begin_of))]
     pub fn begin(mut self, pool: &[u64], thread: usize, operation: Operation) -> Called
         ensures { leaves result pool.now ≡ begin_of self pool.now thread operation }
     {

@@ -10,6 +10,7 @@ use places::used::free_place;
 use stages::claims;
 
 impl Machine {
+    #[tactic(auto, unfolding(crate::specs::Claim::free_ring))]
     fn free_ring(self) -> Claim
         ensures { result ≡ free_ring self }
     {

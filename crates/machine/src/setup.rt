@@ -81,6 +81,7 @@ fn fresh(count: usize, flavors: [Flavor; 4], places: usize, answer: Answer) -> C
 
 impl Machine {
     // So many queues, of these flavours, and so many places in the lent pool. No cell is written. Refused, it is the machine of zeros.
+    #[tactic(auto, unfolding(crate::specs::Setup::setup_of))]
     pub fn setup(queues: usize, flavors: [Flavor; 4], places: usize, pool: &[u64]) -> Called
         ensures { leaves result pool.now ≡ setup_of queues flavors places pool.now }
     {

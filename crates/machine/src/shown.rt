@@ -22,6 +22,7 @@ impl Machine {
     }
 
     // Where the queue's ring lies in a pool of so many cells. An unsound machine, a wrong pool length or a queue that is not there shows an empty part.
+    #[tactic(auto, unfolding(crate::specs::Shown::shown_part))]
     pub fn shown_part(self, length: usize, queue: usize) -> Part
         ensures { result ≡ shown_part self length queue }
     {

@@ -47,6 +47,7 @@ impl Machine {
         true
     }
 
+    #[tactic(auto, unfolding(crate::specs::Sound::sound_b))]
     pub fn is_sound(self) -> bool
         ensures { result ≡ sound_b self }
     {

@@ -49,6 +49,7 @@ impl Machine {
         }
     }
 
+    #[tactic(auto, unfolding(crate::specs::Step::step_of))]
     pub fn step(mut self, pool: &mut [u64], thread: usize) -> Called
         ensures { leaves result pool.new ≡ step_of self pool.old thread }
     {

@@ -16,6 +16,7 @@ impl Machine {
         is_idle(self.stage(thread))
     }
 
+    #[tactic(auto, unfolding(crate::specs::Step::gate_of))]
     pub(crate) fn gate(self, length: usize, thread: usize) -> Gate
         ensures { result ≡ gate_of self length thread }
     {
