@@ -36,6 +36,7 @@ fn leave(machine: &mut [u64], called: Called) -> [u64; 4]
     answer_words(answer)
 }
 
+#[tactic(auto, unfolding(crate::specs::Exported::setup_words))]
 pub fn setup(
     machine: &mut [u64],
     pool: &[u64],
@@ -56,6 +57,7 @@ pub fn setup(
 }
 
 // A call that is asked for.
+#[tactic(auto, unfolding(crate::specs::Exported::asked_words))]
 fn ask(machine: &mut [u64], pool: &mut [u64], thread: usize, request: Request) -> [u64; 4]
     ensures result_after { (machine.new, pool.new, result) ≡ asked_words machine.old pool.old thread request }
     ensures asked_told { AskedTold machine.old pool.old thread request machine.new }
@@ -97,6 +99,7 @@ pub fn call(
 }
 
 // Where the queue's ring starts in a pool of so many cells, and how many cells it has. The cells themselves are not looked at.
+#[tactic(auto, unfolding(crate::specs::Exported::shown_words))]
 pub fn shown(machine: &[u64], cells: usize, queue: usize, part: &mut [u64; 2])
     ensures { part.new ≡ shown_words machine.now cells queue }
 {

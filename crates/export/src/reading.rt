@@ -47,6 +47,7 @@ fn threads_in(words: &[u64]) -> [Thread; 4]
     ]
 }
 
+#[tactic(auto, unfolding(crate::specs::Words::machine_in))]
 pub fn machine_in(words: &[u64]) -> Machine
     ensures { result ≡ machine_in words.now }
 {

@@ -55,6 +55,7 @@ fn put_threads(words: &mut [u64], threads: [Thread; 4])
 }
 
 // Words that are as many as a machine has are its words then, and it is read from them again.
+#[tactic(auto, unfolding(crate::specs::Words::machine_put))]
 pub fn store(words: &mut [u64], machine: Machine)
     ensures words_after { words.new ≡ stored_of words.old machine }
     ensures told { length words.old ≡ machine_size → Told words.new machine }

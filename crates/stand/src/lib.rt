@@ -32,6 +32,7 @@ fn lent(player: Player, pool: &[u64]) -> usize
 }
 
 // What the machine does at what was said; where it is asked nothing, it stands as it did.
+#[tactic(auto, unfolding(crate::specs::Stand::ask_of))]
 fn ask(machine: Machine, turn: Turn, pool: &mut [u64]) -> Called
     ensures { leaves result pool.new ≡ ask_of machine turn pool.old }
 {
@@ -72,6 +73,7 @@ fn standing(player: Player, machine: Machine, at: usize, is_over: bool) -> Stand
 
 impl Stand {
     // Before the session: the machine of zeros, which a refused setup leaves.
+    #[tactic(auto, unfolding(machine::specs::Setup::setup_of))]
     pub fn new() -> Stand
         ensures { result ≡ new_stand }
     {
