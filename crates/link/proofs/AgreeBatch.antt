@@ -9,7 +9,7 @@ use Rattle.parts.specs.declared.stage.Stage.TheVariants.{BatchSource, BatchOwn}
 use Rattle.op_batch.specs.Haul as H
 use Rattle.advance.specs.Advance.{of_batch}
 use Rattle.model.specs.Stage.{Flavour, fifo, lifo, Queue, InHand, none, some, Haul}
-use Rattle.model.specs.Tables.{copying, with_count, in_hand, copy_next, swap_next, landing, stopped, turning}
+use Rattle.model.specs.Tables.{with_count, in_hand, copy_next, swap_next, landing, stopped, turning}
 use Rattle.link.specs.Map.{ix, flavor_of, hand_for, haul_for, stage_for, queue_for, out_for}
 use Rattle.link.proofs.AgreeResize.{either}
 

@@ -15,7 +15,6 @@ use Rattle.model.specs.Stage.{Flavour, fifo, lifo, Queue, cap, set_cell, ResizeS
 use Rattle.model.specs.Stage.{reserve_front, reserve_resize, own_back, all_write, one_write, swap_near, swap_far, swap_put, swap_last, own_store}
 use Rattle.model.specs.Stage.{no_ring, Out, going, ended}
 use Rattle.model.specs.Tables.{Claim, Resized, more, failed, finished, resize_step, resized, slot, turning, own_step}
-use Rattle.model.specs.Machine.{stored}
 use Rattle.model.specs.Invariant.{HaulOk, Ok}
 use Rattle.model.specs.Memory.{note_resize}
 use Rattle.link.specs.Map.{ix, flavor_of, haul_for, resize_at, queue_for, out_for, noted, offer_for}

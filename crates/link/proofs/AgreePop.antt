@@ -9,7 +9,7 @@ use Rattle.parts.specs.declared.out.Claim.{Claim as CodeClaim}
 use Rattle.op_resize.specs.Resize.{resizing, resize_of}
 use Rattle.model.specs.Stage.{Flavour, Queue, cap, ResizeStage, FifoPopStage, fifo_back, fifo_front, fifo_add, fifo_restore, fifo_read, LifoPopStage}
 use Rattle.model.specs.Stage.{lifo_back, lifo_front, lifo_store, lifo_reload, lifo_restore, lifo_last, lifo_exchange, job, lifo_won, lifo_read}
-use Rattle.model.specs.Stage.{Popper, byPop, byBatch, Stage, fifo_pop, lifo_pop, shrink, done, Out, going, ended}
+use Rattle.model.specs.Stage.{Popper, byPop, byBatch, Stage, fifo_pop, lifo_pop, shrink, Out, going, ended}
 use Rattle.model.specs.Tables.{Claim, Resized, more, failed, finished, resize_step, resized, shrink_step, fifo_step, lifo_step}
 use Rattle.model.specs.Invariant.{Ok}
 use Rattle.model.specs.Memory.{note_resize}

@@ -15,7 +15,7 @@ use Rattle.gate.specs.Gate.{names_b, limit_b}
 use Rattle.machine.specs.Begin.{begin_of}
 use Rattle.starts.specs.Starts as H
 use Rattle.model.specs.Count.{upd}
-use Rattle.model.specs.Stage.{Flavour, fifo, lifo, Popper, byPop, byBatch, BatchKind, plain, andPop, none, Stage, idle}
+use Rattle.model.specs.Stage.{Flavour, fifo, lifo, Popper, byPop, byBatch, BatchKind, plain, andPop, Stage, idle}
 use Rattle.model.specs.Machine.{State, Operation, do_push, do_pop, do_length, do_steal, do_batch, popping, from_own, first_stage, begun, Exists}
 use Rattle.model.specs.Invariant.{Inv}
 use Rattle.model.specs.Bound.{Bounded}
@@ -25,9 +25,7 @@ use Rattle.model.proofs.Places.{live_named, content_old}
 use Rattle.link.specs.Map.{flavor_of, popper_of, stage_for, operation_of}
 use Rattle.link.specs.Linked.{StageFits, Linked}
 use Rattle.link.proofs.AgreeResize.{either}
-use Rattle.link.proofs.LinkedLaws.{fits}
 use Rattle.link.proofs.StoreLaws.{few_queues}
-use Rattle.link.proofs.Agree.{agree}
 use Rattle.link.proofs.TurnLaws.{gate_open}
 
 -- the first stage, in the model and in the code

@@ -9,8 +9,7 @@ use Rattle.model.specs.Stage.{steal_exchange, source, SourceStage, source_front,
 use Rattle.model.specs.Stage.{all_exchange, one_first, one_back, one_read, one_reload, one_exchange, OwnStage, reserve_back, reserve_front}
 use Rattle.model.specs.Stage.{reserve_resize, own_back, all_write, one_write, swap_near, swap_far, swap_put, swap_last, own_store, Stage, idle, push}
 use Rattle.model.specs.Stage.{fifo_pop, lifo_pop, shrink, steal, len, own_batch}
-use Rattle.model.specs.Memory.{StealHolds, OwnHolds, SourceHolds, Holds, builds, not_building, building, builds_resize, builds_push, builds_own, Held}
-use Rattle.model.specs.Memory.{Built}
+use Rattle.model.specs.Memory.{StealHolds, OwnHolds, SourceHolds, Holds, builds, not_building, building, builds_resize, builds_push, builds_own}
 use Rattle.link.specs.Map.{resize_at, push_at, steal_at, source_at, own_at, stage_for}
 
 -- ---- a ring that is held

@@ -19,7 +19,6 @@ use Rattle.model.proofs.Good.{ok_rest}
 use Rattle.link.specs.Map.{flavor_of, stage_for, queue_for, flavour_of}
 use Rattle.link.specs.Linked.{pool_of, Linked, Behind}
 use Rattle.link.proofs.StoreLaws.{few_queues}
-use Rattle.link.proofs.Agree.{agree}
 
 -- the flavours of a setup
 abbrev pub flavours : List Flavor → ℕ → Flavour

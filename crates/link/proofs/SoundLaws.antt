@@ -12,7 +12,7 @@ use Rattle.places.specs.Places.{builds_in, both_build}
 use Rattle.machine.specs.declared.state.Machine.{Machine}
 use Rattle.machine.specs.State.{queue_at, stage_at}
 use Rattle.machine.specs.Sound.{apart_b, sound_b}
-use Rattle.model.specs.Stage.{Flavour, Queue, at, cap, ResizeStage, resize_back, resize_front, resize_copy, resize_swap, PushStage, push_back}
+use Rattle.model.specs.Stage.{Flavour, Queue, cap, ResizeStage, resize_back, resize_front, resize_copy, resize_swap, PushStage, push_back}
 use Rattle.model.specs.Stage.{push_front, push_resize, push_write, push_store, own, Haul, source, SourceStage, source_front, source_back, source_ring}
 use Rattle.model.specs.Stage.{source_first, all_copy, all_reload, all_exchange, one_first, one_back, one_read, one_reload, one_exchange, OwnStage}
 use Rattle.model.specs.Stage.{reserve_back, reserve_front, reserve_resize, own_back, all_write, one_write, swap_near, swap_far, swap_put, swap_last}

@@ -19,7 +19,6 @@ use Rattle.model.proofs.Places.{top_at, builds_on, kept_keeps, wrote_keeps, copi
 use Rattle.link.specs.Map.{ix, stage_for, queue_for, noted}
 use Rattle.link.specs.Linked.{pool_of, places_of, StageFits, Linked}
 use Rattle.link.proofs.PoolLaws.{pool_write, keeps_as}
-use Rattle.link.proofs.LinkedLaws.{fits}
 use Rattle.link.proofs.KeptLaws.{builds_one}
 use Rattle.link.proofs.NameLaws.{stage_as, stage_fits}
 use Rattle.link.proofs.StoreLaws.{Stored}

@@ -1,7 +1,7 @@
 -- The machine's step, from a linked state within the invariant: it is the model's step, with the model's answer, and leaves a linked state.
 use Rattle.std.proofs.Common.{◌≡◌, ℕ, suc, ◌+◌, ◌-◌, ◌*◌, ◌%◌, ◌^◌, ◌<◌, ◌≤◌, Bool, true, false, not, T, ltb, List, length, sym, refl, ap, ◌∙◌, subst, inl, inr, mod-eq_of_lt, arith, get_or-set_other, get_or-set_same, ltb-true, lt-ltb, eq-eqb}
 use native.Mathlib.Decide.{ℕ_discrete}
-use Rattle.base.specs.Tests.{tests, and_both}
+use Rattle.base.specs.Tests.{and_both}
 use Rattle.ring.specs.declared.Ring.{Ring}
 use Rattle.ring.specs.Capacity.{allowed_b}
 use Rattle.cells.specs.Cells.{place_cells}
@@ -13,7 +13,7 @@ use Rattle.advance.specs.Advance.{advance_of}
 use Rattle.gate.specs.declared.Gate.TheVariants.{Open}
 use Rattle.machine.specs.declared.state.Machine.{Machine}
 use Rattle.parts.specs.Queues.{zero_queue}
-use Rattle.machine.specs.State.{after, queue_at, counted}
+use Rattle.machine.specs.State.{after, queue_at}
 use Rattle.machine.specs.Claim.{free_place, free_ring, claim_of}
 use Rattle.machine.specs.Step.{gate_of, ran, step_of}
 use Rattle.model.specs.Stage.{Flavour, Queue, cap, ResizeStage, resize_back, resize_front, resize_copy, resize_swap, PushStage, push_back, push_front}

@@ -1,6 +1,6 @@
 -- A state of the model as a state of the code. The naming of rings is free: `R k r` is the ring that queue k's ring number r is; the ring that a
 -- thread builds is named from its claim on.
-use Rattle.std.specs.Prelude.{◌≡◌, ℕ, ◌+◌, ◌-◌, ◌/◌, ◌&&◌, T, List, pos, nat_le, nat_lt}
+use Rattle.std.specs.Prelude.{◌≡◌, ℕ, ◌+◌, ◌-◌, ◌/◌, ◌&&◌, List, pos, nat_le, nat_lt}
 use Rattle.base.specs.Tests.{pick}
 use Rattle.index.specs.declared.Index.{Index}
 use Rattle.index.specs.Index.{difference_of, length_of}
@@ -155,18 +155,18 @@ source_at R (one_read h i) = F.Take (haul_for R h) (Y.One (E.Read i))
 source_at R (one_reload h i v) = F.Take (haul_for R h) (Y.One (E.ReloadRing i v))
 source_at R (one_exchange h i v) = F.Take (haul_for R h) (Y.One (E.Exchange i v))
 
-abbrev pub field_own : (ℕ → Ring) → Ring → OwnStage → CodeOwn
-field_own R new (reserve_back w) = O.Reserve (wanted_for w) M.LoadBack
-field_own R new (reserve_front w b) = O.Reserve (wanted_for w) (M.LoadFront (ix b))
-field_own R new (reserve_resize w z) = O.Reserve (wanted_for w) (M.Resize (resize_at new z))
-field_own R new (own_back w) = O.LoadBack (wanted_for w)
-field_own R new (all_write h i v) = O.Put (haul_for R h) (H.WriteCopy i v)
-field_own R new (one_write h i v) = O.Put (haul_for R h) (H.WriteOne i v)
-field_own R new (swap_near h x) = O.Put (haul_for R h) (H.Swap x X.ReadNear)
-field_own R new (swap_far h x near) = O.Put (haul_for R h) (H.Swap x (X.ReadFar near))
-field_own R new (swap_put h x near far) = O.Put (haul_for R h) (H.Swap x (X.WriteNear near far))
-field_own R new (swap_last h x near) = O.Put (haul_for R h) (H.Swap x (X.WriteFar near))
-field_own R new (own_store h) = O.Put (haul_for R h) H.StoreBack
+abbrev pub own_at : (ℕ → Ring) → Ring → OwnStage → CodeOwn
+own_at R new (reserve_back w) = O.Reserve (wanted_for w) M.LoadBack
+own_at R new (reserve_front w b) = O.Reserve (wanted_for w) (M.LoadFront (ix b))
+own_at R new (reserve_resize w z) = O.Reserve (wanted_for w) (M.Resize (resize_at new z))
+own_at R new (own_back w) = O.LoadBack (wanted_for w)
+own_at R new (all_write h i v) = O.Put (haul_for R h) (H.WriteCopy i v)
+own_at R new (one_write h i v) = O.Put (haul_for R h) (H.WriteOne i v)
+own_at R new (swap_near h x) = O.Put (haul_for R h) (H.Swap x X.ReadNear)
+own_at R new (swap_far h x near) = O.Put (haul_for R h) (H.Swap x (X.ReadFar near))
+own_at R new (swap_put h x near far) = O.Put (haul_for R h) (H.Swap x (X.WriteNear near far))
+own_at R new (swap_last h x near) = O.Put (haul_for R h) (H.Swap x (X.WriteFar near))
+own_at R new (own_store h) = O.Put (haul_for R h) H.StoreBack
 
 abbrev pub stage_for : (ℕ → ℕ → Ring) → Ring → Stage → CodeStage
 stage_for R new idle = G.Idle
@@ -178,7 +178,7 @@ stage_for R new (steal k p) = G.Steal k (steal_at (R k) p)
 stage_for R new (len k p) = G.Length k (length_at p)
 stage_for R new (own_batch p) = G.OwnBatch (length_at p)
 stage_for R new (source k p) = G.BatchSource k (source_at (R k) p)
-stage_for R new (own k p) = G.BatchOwn k (field_own (R k) new p)
+stage_for R new (own k p) = G.BatchOwn k (own_at (R k) new p)
 
 -- ---- queues, answers, what a step leaves
 
