@@ -107,6 +107,8 @@ def part(text, own):
     text = re.sub(r"\bRattle\.core\.(specs|proofs)\b", r"Rattle.parts.\1", text)
     ours = r"(?:Queues|Answers|Out|declared\.(?:answer|out|queue|stage)|contracts\.(?:answer|out|queue|stage))"
     text = re.sub(r"\bRattle\.std\.specs\.(" + ours + r")\b", r"Rattle.parts.specs.\1", text)
+    # port.py took this name for one of the library's
+    text = re.sub(r"\bfield_own\b", "own_at", text)
     return re.sub(r"\bcore::", "parts::", text)
 
 
@@ -163,7 +165,9 @@ def turned(path, line, turn, theirs):
             code, said = line[:at], line[at:]
     # in what is said a word with a dash is a word; a name stands in backquotes
     said = re.sub(r"`[^`]*`", lambda m: TOKEN.sub(swap, m.group(0)), said)
-    return TOKEN.sub(swap, code) + said
+    # a text is no name
+    parts = re.split(r'("(?:[^"\\]|\\.)*")', code)
+    return "".join(p if p.startswith('"') else TOKEN.sub(swap, p) for p in parts) + said
 
 
 if __name__ == "__main__":
