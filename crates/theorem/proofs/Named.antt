@@ -16,7 +16,7 @@ use Rattle.model.specs.Stage.{Flavour, Queue, cap, own, length_back, length_fron
 use Rattle.model.specs.Stage.{shrink, steal, len, own_batch}
 use Rattle.model.specs.Machine.{State}
 use Rattle.model.specs.Invariant.{Ok, Aware}
-use Rattle.model.specs.Memory.{Held, Built, Live}
+use Rattle.model.specs.Memory.{Live}
 use Rattle.model.proofs.Indices.{indices}
 use Rattle.model.proofs.Places.{held_named, live_named}
 use Rattle.link.specs.Map.{ix, stage_for}

@@ -22,7 +22,6 @@ use Rattle.model.specs.Tables.{Offer}
 use Rattle.model.specs.Machine.{State, touched, busy, step_out, stepped, begun, wish}
 use Rattle.model.specs.Logical.{accepts, gives}
 use Rattle.model.specs.Invariant.{total, Kept}
-use Rattle.model.specs.Memory.{kept}
 use Rattle.model.proofs.Calls.{step_kept, begin_kept}
 use Rattle.model.proofs.Indices.{still, step_bounded, begin_bounded}
 use Rattle.link.specs.Map.{answer_for, offer_for, operation_of}

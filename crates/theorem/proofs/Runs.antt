@@ -26,7 +26,7 @@ use Rattle.machine.specs.Begin.{begin_of}
 use Rattle.machine.specs.Begin as H
 use Rattle.model.specs.Count.{stand}
 use Rattle.model.specs.Stage.{Flavour, Queue, at, idle}
-use Rattle.model.specs.Machine.{busy, begun}
+use Rattle.model.specs.Machine.{busy}
 use Rattle.model.specs.Invariant.{amount_at, total}
 use Rattle.model.specs.Bound.{Bounded}
 use Rattle.model.proofs.CountLaws.{stand_empty, stand_back, stand_cong, sum_cong}

@@ -1,6 +1,6 @@
 -- What the statement shuts out, and what it does not: a machine that copies jobs fails it; one that always says Empty passes it, and is shut out
 -- by the step tables.
-use Rattle.std.proofs.Common.{◌≡◌, ℕ, zero, suc, T, List, [], ◌∷◌, refl, arith}
+use Rattle.std.proofs.Common.{◌≡◌, ℕ, zero, suc, List, [], ◌∷◌, refl, arith}
 use Rattle.steal.specs.declared.Steal.TheVariants as T
 use Rattle.parts.specs.declared.answer.Answer.TheVariants as B
 use Rattle.gate.specs.declared.Operation.TheVariants as O

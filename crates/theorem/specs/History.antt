@@ -1,6 +1,6 @@
 -- Sessions: a setup and a list of calls, with any arguments, refused ones included. Each call is given the machine and the pool that the last one
 -- left. What was accepted and what was answered is counted from the calls and their answers alone.
-use Rattle.std.specs.Prelude.{◌≡◌, ℕ, ◌+◌, ◌*◌, ◌<◌, true, T, List, [], ◌∷◌, length, ◌≢◌}
+use Rattle.std.specs.Prelude.{◌≡◌, ℕ, ◌+◌, ◌*◌, ◌<◌, true, List, [], ◌∷◌, length, ◌≢◌}
 use Rattle.index.specs.Index.{plus_of, length_of}
 use Rattle.cells.specs.Cells.{place_cells, read_of}
 use Rattle.steal.specs.declared.Steal.TheVariants as T
