@@ -18,9 +18,11 @@ import re
 import sys
 
 TOKEN = re.compile(r"[^\W\d][\w'′₀-₉⊎]*(?:-[\w'′₀-₉]+)*|⊎_elim")
-DECLARED = re.compile(r"^\s*(?:(?:abbrev|unfoldable|pub|data|record)\s+)*([^\s:(){}.,]+)(?:\s+[({].*)?\s+:\s(.*)")
+DECLARED = re.compile(r"^\s*(?:(?:abbrev|unfoldable|pub|data|record)\s+)*([^\s:(){}.,]+)(?:\s+[({].*)?\s+:(?:\s(.*)|$)")
 WORDS = {"record", "data", "open", "use", "module", "where", "let", "in", "as", "elim", "abbrev", "unfold", "pub", "syntax", "ground", "assumption", "search", "grind", "omega", "simp", "rw", "cc", "subst", "hlevel"}
 TOKENS = {}
+# declared in other forms: several at once, or by a `let` or a `λ`
+OTHERS = ["andPop", "byBatch", "byPop", "answers-done", "idle-t", "is-set-up", "other-lists", "set-up-told"]
 
 
 def read(path):
@@ -49,11 +51,13 @@ def declared():
             m = DECLARED.match(line)
             if not m or line.lstrip().startswith("--"):
                 continue
-            name, kind = m.group(1), m.group(2)
+            name, kind = m.group(1), m.group(2) or ""
             if kind.startswith("tie.") or kind.startswith("goal.") or name.endswith(("-spec", "_spec")):
                 continue
             if TOKEN.fullmatch(name):
                 found[name].add(path)
+    for name in OTHERS:
+        found[name].add("crates/model/proofs/")
     return found
 
 

@@ -166,15 +166,20 @@ start r = r.place.0 * place_cells
 abbrev pub size : Ring → ℕ
 size r = start r + r.capacity - start r
 
--- an index's cell is one of it
+-- an index's cell is one of it, wherever in the pool it starts
+pub at_inside : (cells : List ℕ) (r : Ring) (i : Index) (at from : ℕ) → Standing cells r → from + r.capacity ≤ length cells → at ≡ cell_of i r.capacity
+    → at < length (mid_of from (from + r.capacity - from) cells)
+at_inside cells r i at from s l e =
+    let b = cell_inside cells r i s in
+    rw (mid_len from (from + r.capacity) cells l) (omega arith)
+
 pub at_below : (cells : List ℕ) (r : Ring) (i : Index) (at : ℕ) → stands_b cells r ≡ true → at ≡ cell_of i r.capacity
     → at < length (mid_of (start r) (size r) cells)
 at_below cells r i at s e =
     let t = standing cells r s in
     let m = t.room in
     let u = t.allowed.high in
-    let b = cell_inside cells r i t in
-    rw (mid_len (start r) (start r + r.capacity) cells (omega arith)) (omega arith)
+    at_inside cells r i at (start r) t (omega arith) e
 
 -- what stands in that cell is what is read
 pub got : (cells : List ℕ) (r : Ring) (i : Index) (at : ℕ) → stands_b cells r ≡ true → at ≡ cell_of i r.capacity

@@ -99,11 +99,11 @@ module _ (k : ℕ) (flavors : List Flavor) (n : ℕ) (cells : List ℕ) (calls :
     own_length = let b = T.reached_done k flavors n cells calls few lends set_up in N.own_length k _ b.0 (length calls) m s.cells b.1 few
 
 -- a setup of 91 words, and a row of fewer than 2^62 calls on what it left
-module _ (w cells : List ℕ) (k bits n : ℕ) (size : length w ≡ 91) (first answer : List ℕ) (is-set-up : (first, answer) ≡ setup_words w cells k bits n)
+module _ (w cells : List ℕ) (k bits n : ℕ) (size : length w ≡ 91) (first answer : List ℕ) (is_set_up : (first, answer) ≡ setup_words w cells k bits n)
     (told : SetupTold w cells k bits n first) (es : List Entry) (row : Row first cells es) (few : length es < 2 ^ 62) (lends : Lends n (calls_in es)) where
   pub conserved_in_words : (j : ℕ) → (answered_in es j ≤ accepted_in (λ t. 0) es j)
       × (AtRest (machine_in (words_at first es)) → accepted_in (λ t. 0) es j ≡ answered_in es j + standing (machine_in (words_at first es)) (pool_at cells es) j)
-  conserved_in_words = R.conserved_in_words w cells k bits n size first answer is-set-up told es row few lends
+  conserved_in_words = R.conserved_in_words w cells k bits n size first answer is_set_up told es row few lends
 
   pub sound_in_words : (machine_b (words_at first es) ≡ true) × (answer ≡ 1 ∷ 0 ∷ 0 ∷ 0 ∷ [] → sound_b (machine_in (words_at first es)) ≡ true)
-  sound_in_words = R.sound_in_words w cells k bits n size first answer is-set-up told es row few lends
+  sound_in_words = R.sound_in_words w cells k bits n size first answer is_set_up told es row few lends

@@ -132,7 +132,7 @@ done_is w cells k bits n size e = set_up_is (setup_tests k n (length cells)) k (
 
 -- 91 words, whatever they are, and the cells, whatever they are; a setup that left `first`, refused or not; a row of fewer than 2^62 calls
 module _ (w cells : List ℕ) (k bits n : ℕ) (size : length w ≡ machine_size) (first answer : List ℕ)
-    (is-set-up : (first, answer) ≡ setup_words w cells k bits n) (set-up-told : SetupTold w cells k bits n first)
+    (is_set_up : (first, answer) ≡ setup_words w cells k bits n) (set_up_told : SetupTold w cells k bits n first)
     (es : List Entry) (row : Row first cells es) (few : length es < 2 ^ 62) (lends : Lends n (calls_in es)) where
   abbrev s : Session
   s = session k (flavors_of bits) n cells (calls_in es)
@@ -145,7 +145,7 @@ module _ (w cells : List ℕ) (k bits n : ℕ) (size : length w ≡ machine_size
       subst (λ (x : List ℕ). Tells (words_at first es) (pool_at cells es) (λ jobs j. accepted_in jobs es j) (answered_in es)
       (run (setup_of k (flavors_of bits) n cells).called.machine x (calls_in es)))
       (sym (setup_cells k (flavors_of bits) n cells))
-      (row_is first cells (setup_of k (flavors_of bits) n cells).called.machine (set-up-told size) es row)
+      (row_is first cells (setup_of k (flavors_of bits) n cells).called.machine (set_up_told size) es row)
 
   -- no job lost, none doubled, by the numbers that crossed the interface
   pub conserved_in_words : (j : ℕ) → (answered_in es j ≤ accepted_in (λ t. 0) es j)
@@ -157,10 +157,10 @@ module _ (w cells : List ℕ) (k bits n : ℕ) (size : length w ≡ machine_size
 
   -- the words are a machine's; after a setup that answered Done it is sound, and no call on them gets 3
   pub sound_in_words : (machine_b (words_at first es) ≡ true) × (answer ≡ answer_words Done → sound_b m ≡ true)
-  sound_in_words = (is_session.machine.0, λ answers-done. rw is_session.machine.1 (reached_done answers-done).0)
+  sound_in_words = (is_session.machine.0, λ answers_done. rw is_session.machine.1 (reached_done answers_done).0)
     where
       reached_done : answer ≡ answer_words Done → Reached Done cells s
       reached_done h =
           let fewer = calls_length es in
-          let done = done_is w cells k bits n size (sym (ap (λ x. x.1) is-set-up) ∙ h) in
+          let done = done_is w cells k bits n size (sym (ap (λ x. x.1) is_set_up) ∙ h) in
           subst (λ (a : Answer). Reached a cells s) done (reached_sound k (flavors_of bits) n cells (calls_in es) (omega arith) lends)

@@ -9,7 +9,7 @@ use Rattle.parts.specs.declared.out.Claim.{Claim as CodeClaim}
 use Rattle.op_resize.specs.Resize.{resizing, resize_of}
 use Rattle.model.specs.Stage.{Flavour, Queue, cap, ResizeStage, FifoPopStage, fifo_back, fifo_front, fifo_add, fifo_restore, fifo_read, LifoPopStage}
 use Rattle.model.specs.Stage.{lifo_back, lifo_front, lifo_store, lifo_reload, lifo_restore, lifo_last, lifo_exchange, job, lifo_won, lifo_read}
-use Rattle.model.specs.Stage.{Popper, byPop, byBatch, Stage, fifo_pop, lifo_pop, shrink, Out, going, ended}
+use Rattle.model.specs.Stage.{Popper, by_pop, by_batch, Stage, fifo_pop, lifo_pop, shrink, Out, going, ended}
 use Rattle.model.specs.Tables.{Claim, Resized, more, failed, finished, resize_step, resized, shrink_step, fifo_step, lifo_step}
 use Rattle.model.specs.Invariant.{Ok}
 use Rattle.model.specs.Memory.{note_resize}
@@ -25,12 +25,12 @@ module _ (fl : Flavour) (R : ℕ → ℕ → Ring) (k : ℕ) (new : Ring) (q : Q
         → resize_of (resize_at new z) (queue_for fl (R k) q) gc cells ≡ resizing (resized_for fl (R k) new r) l
         → l ≡ noted (note_resize gm z) (R k q.ring) new cells
         → Same (shrink a v z) (resized r (λ y. going q (shrink a v y)) (ended q (job a v)) (λ r. ended r (job a v)))
-    after_resize byPop v z (more y) l e f = rw (e, f)
-    after_resize byPop v z failed l e f = rw (e, f)
-    after_resize byPop v z (finished r) l e f = rw (e, f)
-    after_resize byBatch v z (more y) l e f = rw (e, f)
-    after_resize byBatch v z failed l e f = rw (e, f)
-    after_resize byBatch v z (finished r) l e f = rw (e, f)
+    after_resize by_pop v z (more y) l e f = rw (e, f)
+    after_resize by_pop v z failed l e f = rw (e, f)
+    after_resize by_pop v z (finished r) l e f = rw (e, f)
+    after_resize by_batch v z (more y) l e f = rw (e, f)
+    after_resize by_batch v z failed l e f = rw (e, f)
+    after_resize by_batch v z (finished r) l e f = rw (e, f)
 
     pub shrink_agree : (a : Popper) (v : ℕ) (z : ResizeStage) → Ok fl (shrink a v z) q → ResizeNames (R k) new gm gc z q
         → Same (shrink a v z) (shrink_step (offer_for gm (shrink a v z) q) a v z q)
@@ -54,8 +54,8 @@ module _ (fl : Flavour) (R : ℕ → ℕ → Ring) (k : ℕ) (new : Ring) (q : Q
       where
         said : (a : Popper) → empty_b (ix b) (ix q.front) ≡ leb b q.front → leb b q.front ≡ true
             → Same (fifo_pop a (fifo_front b)) (fifo_step (offer_for gm (fifo_pop a (fifo_front b)) q) a (fifo_front b) q)
-        said byPop e t = rw (e, t)
-        said byBatch e t = rw (e, t)
+        said by_pop e t = rw (e, t)
+        said by_batch e t = rw (e, t)
     fifo_agree a (fifo_add b others) o =
         let sf = w.front in
         let sb = w.back in
@@ -63,8 +63,8 @@ module _ (fl : Flavour) (R : ℕ → ℕ → Ring) (k : ℕ) (new : Ring) (q : Q
         let n = next_ix q.front (omega arith) in
         let t₁ = behind_is b (suc q.front) (omega arith) (omega arith) in
         either (ltb b (suc q.front)) (λ t. rw (n, t₁, t)) (λ t. rw (n, t₁, t))
-    fifo_agree byPop (fifo_restore f) o = refl
-    fifo_agree byBatch (fifo_restore f) o = refl
+    fifo_agree by_pop (fifo_restore f) o = refl
+    fifo_agree by_batch (fifo_restore f) o = refl
     fifo_agree a (fifo_read f others) o =
         let c : ℕ = (R k q.ring).capacity in
         let ca : c ≡ cap q = w.capacity in
@@ -80,8 +80,8 @@ module _ (fl : Flavour) (R : ℕ → ℕ → Ring) (k : ℕ) (new : Ring) (q : Q
       where
         done : (a : Popper) → (R k q.ring).capacity ≡ cap q → (ltb smallest (R k q.ring).capacity && leb (others + 1) ((R k q.ring).capacity / 4)) ≡ false
             → Same (fifo_pop a (fifo_read f others)) (fifo_step (offer_for gm (fifo_pop a (fifo_read f others)) q) a (fifo_read f others) q)
-        done byPop ca t = rw (w.reads f, ← ca, t)
-        done byBatch ca t = rw (w.reads f, ← ca, t)
+        done by_pop ca t = rw (w.reads f, ← ca, t)
+        done by_batch ca t = rw (w.reads f, ← ca, t)
 
     -- ---- LIFO
 
@@ -97,8 +97,8 @@ module _ (fl : Flavour) (R : ℕ → ℕ → Ring) (k : ℕ) (new : Ring) (q : Q
       where
         said : (a : Popper) → empty_b (ix b) (ix q.front) ≡ leb b q.front → leb b q.front ≡ true
             → Same (lifo_pop a (lifo_front b)) (lifo_step (offer_for gm (lifo_pop a (lifo_front b)) q) a (lifo_front b) q)
-        said byPop e t = rw (e, t)
-        said byBatch e t = rw (e, t)
+        said by_pop e t = rw (e, t)
+        said by_batch e t = rw (e, t)
     lifo_agree a (lifo_store b) o =
         let sb = w.back in let e = o.stage.1 in rw (minus_is b 1 (omega arith) (omega arith))
     lifo_agree a (lifo_reload b) o =
@@ -111,8 +111,8 @@ module _ (fl : Flavour) (R : ℕ → ℕ → Ring) (k : ℕ) (new : Ring) (q : Q
         let t₃ = length_is (b - 1) q.front (omega arith) (omega arith) in
         either (ltb (b - 1) q.front) (λ t. rw (m, t₁, t))
         (λ t. either (leb (b - 1) q.front) (λ u. rw (m, t₁, t, t₂, u)) (λ u. rw (m, t₁, t, t₂, u, t₃)))
-    lifo_agree byPop (lifo_restore b) o = refl
-    lifo_agree byBatch (lifo_restore b) o = refl
+    lifo_agree by_pop (lifo_restore b) o = refl
+    lifo_agree by_batch (lifo_restore b) o = refl
     lifo_agree a (lifo_last b) o =
         let sb = w.back in let e = o.stage.1 in rw (minus_is b 1 (omega arith) (omega arith), w.reads (b - 1))
     lifo_agree a (lifo_exchange b v) o =
@@ -122,8 +122,8 @@ module _ (fl : Flavour) (R : ℕ → ℕ → Ring) (k : ℕ) (new : Ring) (q : Q
         let n = next_ix (b - 1) (omega arith) in
         let s = same_is q.front (b - 1) in
         either (eqb q.front (b - 1)) (λ t. rw (m, n, s, t)) (λ t. rw (m, n, s, t))
-    lifo_agree byPop (lifo_won b v) o = refl
-    lifo_agree byBatch (lifo_won b v) o = refl
+    lifo_agree by_pop (lifo_won b v) o = refl
+    lifo_agree by_batch (lifo_won b v) o = refl
     lifo_agree a (lifo_read b others) o =
         let sb = w.back in
         let e = o.stage.1 in
@@ -143,5 +143,5 @@ module _ (fl : Flavour) (R : ℕ → ℕ → Ring) (k : ℕ) (new : Ring) (q : Q
         done : (a : Popper) → minus_of (ix b) 1 ≡ ix (b - 1) → (R k q.ring).capacity ≡ cap q
             → (ltb smallest (R k q.ring).capacity && ltb (others + 1) ((R k q.ring).capacity / 4)) ≡ false
             → Same (lifo_pop a (lifo_read b others)) (lifo_step (offer_for gm (lifo_pop a (lifo_read b others)) q) a (lifo_read b others) q)
-        done byPop m ca t = rw (m, w.reads (b - 1), ← ca, t)
-        done byBatch m ca t = rw (m, w.reads (b - 1), ← ca, t)
+        done by_pop m ca t = rw (m, w.reads (b - 1), ← ca, t)
+        done by_batch m ca t = rw (m, w.reads (b - 1), ← ca, t)

@@ -6,7 +6,7 @@ use Rattle.ring.specs.declared.Ring.{Ring}
 use Rattle.cells.specs.Cells.{read_of}
 use Rattle.parts.specs.declared.out.Claim.{Claim as CodeClaim}
 use Rattle.op_batch.specs.Haul as H
-use Rattle.model.specs.Stage.{Flavour, fifo, lifo, Queue, cell, set_front, BatchKind, plain, andPop, InHand, none, some, Haul, source, SourceStage}
+use Rattle.model.specs.Stage.{Flavour, fifo, lifo, Queue, cell, set_front, BatchKind, plain, and_pop, InHand, none, some, Haul, source, SourceStage}
 use Rattle.model.specs.Stage.{source_front, source_back, source_ring, source_first, all_copy, all_reload, all_exchange, one_first, one_back, one_read}
 use Rattle.model.specs.Stage.{one_reload, one_exchange, Stage, Out, going}
 use Rattle.model.specs.Tables.{Claim, wanted, hauling, with_job, onward, in_hand, holding, first_read, source_step}
@@ -22,7 +22,7 @@ use Rattle.link.proofs.AgreeBatch.{copy_agree, stop_agree, turn_agree, first_ix}
 
 wanted_agree : (m : BatchKind) (d others : ℕ) → H.wanted_of (kind_of m) d others ≡ wanted m d others
 wanted_agree plain d others = refl
-wanted_agree andPop d others = refl
+wanted_agree and_pop d others = refl
 
 module _ (fo : Flavour) (R : ℕ → ℕ → Ring) (k : ℕ) (new : Ring) (q : Queue) (cells : List ℕ) (gm : Claim) (gc : CodeClaim) where
   abbrev Same : (fl : Flavour) → SourceStage → Out → Type 0
@@ -33,8 +33,8 @@ module _ (fo : Flavour) (R : ℕ → ℕ → Ring) (k : ℕ) (new : Ring) (q : Q
   ring_agree fifo plain f n b = rw (copy_agree R k new (hauling q.ring (record { kind = plain; f = f; n = n }) b) 0)
   ring_agree lifo plain f n b =
       either (leb n 0) (λ t. rw (t, stop_agree R k new k fo lifo (hauling q.ring (record { kind = plain; f = f; n = n }) b) 0 q)) (λ t. rw t)
-  ring_agree fifo andPop f n b = refl
-  ring_agree lifo andPop f n b = refl
+  ring_agree fifo and_pop f n b = refl
+  ring_agree lifo and_pop f n b = refl
 
   first_agree : (fl : Flavour) (h : Haul) → read_of cells (R k h.ring) (ix h.f) ≡ cell q h.ring h.f
       → Same fl (source_first h) (going q (first_read fl k h (cell q h.ring h.f)))

@@ -15,7 +15,7 @@ use Rattle.gate.specs.Gate.{names_b, limit_b}
 use Rattle.machine.specs.Begin.{begin_of}
 use Rattle.starts.specs.Starts as H
 use Rattle.model.specs.Count.{upd}
-use Rattle.model.specs.Stage.{Flavour, fifo, lifo, Popper, byPop, byBatch, BatchKind, plain, andPop, Stage, idle}
+use Rattle.model.specs.Stage.{Flavour, fifo, lifo, Popper, by_pop, by_batch, BatchKind, plain, and_pop, Stage, idle}
 use Rattle.model.specs.Machine.{State, Operation, do_push, do_pop, do_length, do_steal, do_batch, popping, from_own, first_stage, begun, Exists}
 use Rattle.model.specs.Invariant.{Inv}
 use Rattle.model.specs.Bound.{Bounded}
@@ -37,11 +37,11 @@ popping_is lifo w R new = refl
 first_is : (R : ℕ → ℕ → Ring) (new : Ring) (fl : Flavour) (t : ℕ) (o : CodeOperation)
     → H.first_stage (flavor_of fl) t o ≡ stage_for R new (first_stage fl t (operation_of o))
 first_is R new fl t (Q.Push v) = refl
-first_is R new fl t Q.Pop = sym (popping_is fl byPop R new)
+first_is R new fl t Q.Pop = sym (popping_is fl by_pop R new)
 first_is R new fl t (Q.Length k) = refl
 first_is R new fl t (Q.Steal k) = refl
 first_is R new fl t (Q.Batch k limit) = either (eqb k t) (λ e. rw e) (λ e. rw e)
-first_is R new fl t (Q.BatchAndPop k limit) = either (eqb k t) (λ e. rw e (sym (popping_is fl byBatch R new))) (λ e. rw e)
+first_is R new fl t (Q.BatchAndPop k limit) = either (eqb k t) (λ e. rw e (sym (popping_is fl by_batch R new))) (λ e. rw e)
 
 pub exists : (n : ℕ) (o : CodeOperation) → names_b n o ≡ true → Exists n (operation_of o)
 exists n (Q.Push v) h = tt
@@ -67,18 +67,18 @@ record Fresh (x : Stage) : Type 0 where
 
 first_calm : (fl : Flavour) (t : ℕ) (o : Operation) → Fresh (first_stage fl t o)
 first_calm fl t (do_push x) = record { none = refl; fits = λ C. tt; free = λ k r h. h }
-first_calm fl t do_pop = record { none = (pop_calm fl byPop 0).0; fits = λ C. (pop_calm fl byPop C).1; free = pop_free fl byPop }
+first_calm fl t do_pop = record { none = (pop_calm fl by_pop 0).0; fits = λ C. (pop_calm fl by_pop C).1; free = pop_free fl by_pop }
 first_calm fl t (do_length k) = record { none = refl; fits = λ C. tt; free = λ k r h. h }
 first_calm fl t (do_steal k) = record { none = refl; fits = λ C. tt; free = λ k r h. h.1 }
 first_calm fl t (do_batch m k others) = by_test Fresh (eqb k t) _ _ (λ e. from m) (λ e. record { none = refl; fits = λ C. tt; free = λ k r h. h.1 })
   where
     from : (m : BatchKind) → Fresh (from_own fl m)
     from plain = record { none = refl; fits = λ C. tt; free = λ k r h. h }
-    from andPop = record { none = (pop_calm fl byBatch 0).0; fits = λ C. (pop_calm fl byBatch C).1; free = pop_free fl byBatch }
+    from and_pop = record { none = (pop_calm fl by_batch 0).0; fits = λ C. (pop_calm fl by_batch C).1; free = pop_free fl by_batch }
 
 module _ (n : ℕ) (fl : ℕ → Flavour) (R : ℕ → ℕ → Ring) (s : State) (m : Machine) (cells : List ℕ) (w : Linked n fl R s m cells) (mem : ℕ → ℕ)
     (v : Inv n fl mem s) (c : ℕ)
-    (b : Bounded n c s) (lc : c < 2 ^ 62) (t : ℕ) (lt : t < n) (o : CodeOperation) (idle-t : s.stages t ≡ idle) where
+    (b : Bounded n c s) (lc : c < 2 ^ 62) (t : ℕ) (lt : t < n) (o : CodeOperation) (idle_t : s.stages t ≡ idle) where
   abbrev x : Stage
   x = first_stage (fl t) t (operation_of o)
 
@@ -94,7 +94,7 @@ module _ (n : ℕ) (fl : ℕ → Flavour) (R : ℕ → ℕ → Ring) (s : State)
   pub begin_is : names_b n o ≡ true → limit_b o ≡ true → begin_of m cells t o ≡ after machine' B.Working cells
   unfolding begin_of
   begin_is e h =
-      rw (gate_open n fl s m cells mem v c b lc R w t lt, w.count, e, w.stages t lt, idle-t, h, w.queues t lt, first_is R (R t (s.queues t).top) (fl t) t o)
+      rw (gate_open n fl s m cells mem v c b lc R w t lt, w.count, e, w.stages t lt, idle_t, h, w.queues t lt, first_is R (R t (s.queues t).top) (fl t) t o)
 
   building_was : (j : ℕ) → (builds (s'.stages j) ≡ not_building → ⊥) → builds (s.stages j) ≡ not_building → ⊥
   building_was j h = go (ℕ_discrete j t)
@@ -126,7 +126,7 @@ module _ (n : ℕ) (fl : ℕ → Flavour) (R : ℕ → ℕ → Ring) (s : State)
   content_was j r y l = go (live_named n fl mem s v j r (live_was j r l))
     where
       same : Dec (j ≡ t) → (builds (s.stages j) ≡ not_building → ⊥) → builds (s'.stages j) ≡ builds (s.stages j)
-      same (yes p) h = absurd (h (ap (λ (i : ℕ). builds (s.stages i)) p ∙ ap builds idle-t))
+      same (yes p) h = absurd (h (ap (λ (i : ℕ). builds (s.stages i)) p ∙ ap builds idle_t))
       same (no p) h = ap builds (upd_other s.stages t x j p)
 
       go : Named n s j r → content s' j r y ≡ content s j r y

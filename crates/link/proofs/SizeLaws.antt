@@ -10,7 +10,7 @@ use Rattle.model.specs.Stage.{Flavour, fifo, lifo, Queue, cell, at, cap, set_fro
 use Rattle.model.specs.Stage.{resize_swap, PushStage, push_back, push_front, push_resize, push_write, push_store, FifoPopStage, fifo_back, fifo_front}
 use Rattle.model.specs.Stage.{fifo_add, fifo_restore, fifo_read, LifoPopStage, lifo_back, lifo_front, lifo_store, lifo_reload, lifo_restore}
 use Rattle.model.specs.Stage.{lifo_last, lifo_exchange, job, lifo_won, lifo_read, own, Popper, StealStage, steal_front, steal_back, steal_ring}
-use Rattle.model.specs.Stage.{steal_read, steal_reload, steal_exchange, LengthStage, length_back, length_front, BatchKind, plain, andPop, some, Haul}
+use Rattle.model.specs.Stage.{steal_read, steal_reload, steal_exchange, LengthStage, length_back, length_front, BatchKind, plain, and_pop, some, Haul}
 use Rattle.model.specs.Stage.{source, SourceStage, source_front, source_back, source_ring, source_first, all_copy, all_reload, all_exchange}
 use Rattle.model.specs.Stage.{one_first, one_back, one_read, one_reload, one_exchange, OwnStage, reserve_back, reserve_front, reserve_resize}
 use Rattle.model.specs.Stage.{own_back, all_write, one_write, swap_near, swap_far, swap_put, swap_last, own_store, Stage, idle, push, fifo_pop}
@@ -174,8 +174,8 @@ module _ (C : ℕ) (q : Queue) where
   hold_plain : (fs fo : Flavour) (k : ℕ) (m : BatchKind) (h : Haul) → Plain (holding m fs fo k h q)
   hold_plain fifo fo k plain h = copy_plain k h
   hold_plain lifo fo k plain h = by_test Plain (leb h.n 0) _ _ (λ t. stop_plain fo k h 0 q) (λ t. tt)
-  hold_plain fifo fo k andPop h = tt
-  hold_plain lifo fo k andPop h = tt
+  hold_plain fifo fo k and_pop h = tt
+  hold_plain lifo fo k and_pop h = tt
 
   first_plain : (fs : Flavour) (k : ℕ) (h : Haul) (v : ℕ) → StageFits C (first_read fs k h v)
   first_plain fifo k h v = copy_plain k (with_job h v)

@@ -57,8 +57,8 @@ use Rattle.gate.specs.declared.Operation.TheVariants as Q
 use Rattle.model.specs.Stage.{Flavour, fifo, lifo, Queue, cap, ResizeStage, resize_back, resize_front, resize_copy, resize_swap, PushStage, push_back}
 use Rattle.model.specs.Stage.{push_front, push_resize, push_write, push_store, FifoPopStage, fifo_back, fifo_front, fifo_add, fifo_restore, fifo_read}
 use Rattle.model.specs.Stage.{LifoPopStage, lifo_back, lifo_front, lifo_store, lifo_reload, lifo_restore, lifo_last, lifo_exchange, job, lifo_won}
-use Rattle.model.specs.Stage.{lifo_read, own, Popper, byPop, byBatch, StealStage, steal_front, steal_back, steal_ring, steal_read, steal_reload}
-use Rattle.model.specs.Stage.{steal_exchange, LengthStage, length_back, length_front, BatchKind, plain, andPop, Wanted, InHand, none, some, Haul}
+use Rattle.model.specs.Stage.{lifo_read, own, Popper, by_pop, by_batch, StealStage, steal_front, steal_back, steal_ring, steal_read, steal_reload}
+use Rattle.model.specs.Stage.{steal_exchange, LengthStage, length_back, length_front, BatchKind, plain, and_pop, Wanted, InHand, none, some, Haul}
 use Rattle.model.specs.Stage.{source, SourceStage, source_front, source_back, source_ring, source_first, all_copy, all_reload, all_exchange}
 use Rattle.model.specs.Stage.{one_first, one_back, one_read, one_reload, one_exchange, OwnStage, reserve_back, reserve_front, reserve_resize}
 use Rattle.model.specs.Stage.{own_back, all_write, one_write, swap_near, swap_far, swap_put, swap_last, own_store, Stage, idle, push, fifo_pop}
@@ -78,12 +78,12 @@ flavor_of fifo = Fifo
 flavor_of lifo = Lifo
 
 abbrev pub popper_of : Popper → CodePopper
-popper_of byPop = W.Pop
-popper_of byBatch = W.BatchAndPop
+popper_of by_pop = W.Pop
+popper_of by_batch = W.BatchAndPop
 
 abbrev pub kind_of : BatchKind → CodeKind
 kind_of plain = K.Batch
-kind_of andPop = K.BatchAndPop
+kind_of and_pop = K.BatchAndPop
 
 abbrev pub hand_for : InHand → CodeInHand
 hand_for none = I.Nothing
@@ -186,12 +186,12 @@ abbrev pub queue_for : Flavour → (ℕ → Ring) → Queue → CodeQueue
 queue_for fl R q = record { flavor = flavor_of fl; front = ix q.front; back = ix q.back; ring = R q.ring }
 
 abbrev pub job_for : Popper → ℕ → CodeAnswer
-job_for byPop v = B.Job v
-job_for byBatch v = B.Stolen (T.Success v)
+job_for by_pop v = B.Job v
+job_for by_batch v = B.Stolen (T.Success v)
 
 abbrev pub nothing_for : Popper → CodeAnswer
-nothing_for byPop = B.Nothing
-nothing_for byBatch = B.Stolen T.Empty
+nothing_for by_pop = B.Nothing
+nothing_for by_batch = B.Stolen T.Empty
 
 abbrev pub answer_for : Answer → CodeAnswer
 answer_for working = B.Working
@@ -324,4 +324,4 @@ operation_of Q.Pop = do_pop
 operation_of (Q.Length k) = do_length k
 operation_of (Q.Steal k) = do_steal k
 operation_of (Q.Batch k limit) = do_batch plain k (limit - 1)
-operation_of (Q.BatchAndPop k limit) = do_batch andPop k (limit - 1)
+operation_of (Q.BatchAndPop k limit) = do_batch and_pop k (limit - 1)

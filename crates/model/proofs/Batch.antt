@@ -8,7 +8,7 @@ use native.Mathlib.Decide.{ℕ_discrete, dec_le}
 use lib.Dec.{T, leb, eqb}
 use Rattle.base.specs.Tests.{by_test, tests}
 use Rattle.model.specs.Count.{one, upd, stand}
-use Rattle.model.specs.Stage.{Flavour, fifo, lifo, Queue, at, cap, set_cell, own, BatchKind, plain, andPop, InHand, none, some, Haul, source}
+use Rattle.model.specs.Stage.{Flavour, fifo, lifo, Queue, at, cap, set_cell, own, BatchKind, plain, and_pop, InHand, none, some, Haul, source}
 use Rattle.model.specs.Stage.{all_copy, all_reload, one_back, swap_near, own_store, Stage, idle, push, fifo_pop, lifo_pop, shrink, steal, len}
 use Rattle.model.specs.Stage.{own_batch, retry, Out, going, ended}
 use Rattle.model.specs.Tables.{told, wanted, with_count, to_hand, copy_next, slot, swap_next, landing, is_none, stopped, turning, to_write}
@@ -67,7 +67,7 @@ by_copy P k h i x y = by_test P (leb h.n i) _ _ (λ t. x (omega tests)) (λ t. y
 
 pub wanted_fits : (m : BatchKind) (d others : ℕ) → 0 < d → (0 < to_hand m + wanted m d others) × (to_hand m + wanted m d others ≤ d)
 wanted_fits plain d others a = (omega arith, omega arith)
-wanted_fits andPop d others a = (omega arith, omega arith)
+wanted_fits and_pop d others a = (omega arith, omega arith)
 
 pub in_hand_lem : (j : InHand) (v i : ℕ) → one (to_write j v) i + hand_of (next_in_hand j v) i ≡ one v i + hand_of j i
 in_hand_lem none v i = refl

@@ -6,8 +6,8 @@ use native.Mathlib.Decide.{ℕ_discrete}
 use lib.Dec.{T, eqb}
 use Rattle.base.specs.Tests.{by_test, tests}
 use Rattle.model.specs.Count.{upd, stand}
-use Rattle.model.specs.Stage.{Flavour, fifo, lifo, Queue, at, push_back, fifo_back, lifo_back, own, Popper, byPop, byBatch, steal_front}
-use Rattle.model.specs.Stage.{length_back, BatchKind, plain, andPop, source, SourceStage, source_front, Stage, idle, push, fifo_pop, lifo_pop}
+use Rattle.model.specs.Stage.{Flavour, fifo, lifo, Queue, at, push_back, fifo_back, lifo_back, own, Popper, by_pop, by_batch, steal_front}
+use Rattle.model.specs.Stage.{length_back, BatchKind, plain, and_pop, source, SourceStage, source_front, Stage, idle, push, fifo_pop, lifo_pop}
 use Rattle.model.specs.Stage.{shrink, steal, len, own_batch, working, Out}
 use Rattle.model.specs.Tables.{Offer, push_step, shrink_step, fifo_step, lifo_step, steal_step, length_step, own_batch_step, source_step, own_step}
 use Rattle.model.specs.Machine.{State, busy, stored, step_out, stepped, Operation, do_push, do_pop, do_length, do_steal, do_batch, popping}
@@ -115,12 +115,12 @@ module _ (n : ℕ) (fl : ℕ → Flavour) where
       go i h d (yes e) = subst P (sym e) r
       go i h d (no e) = q i h d e
 
-  by_batch : (mem : ℕ → ℕ) (s s' : State) (t k : ℕ) (p : SourceStage) (o : Out) → Inv n fl mem s → t < n → k < n → (k ≡ t → ⊥)
+  by_batch_lem : (mem : ℕ → ℕ) (s s' : State) (t k : ℕ) (p : SourceStage) (o : Out) → Inv n fl mem s → t < n → k < n → (k ≡ t → ⊥)
       → s.stages t ≡ source k p
       → Rob (fl k) (fl t) k (s.stages k) (s.queues k) p (s.queues t) o → s'.stages t ≡ o.stage → s'.queues k ≡ o.queue
       → ((i : ℕ) → (i ≡ t → ⊥) → s'.stages i ≡ s.stages i) → ((i : ℕ) → (i ≡ k → ⊥) → s'.queues i ≡ s.queues i)
       → Kept n fl (mem t) mem s s' o.answer
-  by_batch mem s s' t k p o v l h d z g e f a b =
+  by_batch_lem mem s s' t k p o v l h d z g e f a b =
       let d' : t ≡ k → ⊥ = λ u. d (sym u) in
       record {
         inv = framed mem mem s s' t v record {
@@ -321,7 +321,7 @@ module _ (n : ℕ) (fl : ℕ → Flavour) where
   step_from mem s t g (source k p) v l e b =
       let w : Aware n fl s t (source k p) = rw e at (v.aware t l) in
       let o : Out = source_step (fl k) (fl t) k p (s.queues k) in
-      by_batch mem s (stored s t k o) t k p o v l w.0 w.1 e
+      by_batch_lem mem s (stored s t k o) t k p o v l w.0 w.1 e
       (source_rob (fl k) (fl t) k (s.stages k) (s.queues k) (v.oks k w.0) (s.queues t) p (rw e at (v.oks t l)) w.2)
       (upd_same s.stages t o.stage t refl) (upd_same s.queues k o.queue k refl) (λ i d. upd_other s.stages t o.stage i d)
       (λ i d. upd_other s.queues k o.queue i d)
@@ -372,13 +372,13 @@ module _ (n : ℕ) (fl : ℕ → Flavour) where
   start_own : (m : ℕ) (mem : ℕ → ℕ) (s : State) (t : ℕ) (c : BatchKind) → Inv n fl mem s → t < n → s.stages t ≡ idle
       → Kept n fl m mem s (record { stages = upd s.stages t (from_own (fl t) c); queues = s.queues }) working
   start_own m mem s t plain v l e = starts m mem mem s t (own_batch length_back) v l e refl refl (λ j. refl) tt (λ u d. refl) tt tt
-  start_own m mem s t andPop v l e = start_pop (fl t) byBatch m mem s t refl v l e
+  start_own m mem s t and_pop v l e = start_pop (fl t) by_batch m mem s t refl v l e
 
   pub begin_kept : (m : ℕ) (mem : ℕ → ℕ) (s : State) (t : ℕ) (o : Operation) → Inv n fl mem s → t < n → s.stages t ≡ idle → Exists n o
       → Kept n fl m (wish mem t o) s (begun fl s t o) working
   begin_kept m mem s t (do_push x) v l e h =
       starts m mem (upd mem t x) s t (push x push_back) v l e refl refl (λ j. refl) tt (λ u d. upd_other mem t x u d) (upd_same mem t x t refl) tt
-  begin_kept m mem s t do_pop v l e h = start_pop (fl t) byPop m mem s t refl v l e
+  begin_kept m mem s t do_pop v l e h = start_pop (fl t) by_pop m mem s t refl v l e
   begin_kept m mem s t (do_length k) v l e h = starts m mem mem s t (len k length_back) v l e refl refl (λ j. refl) tt (λ u d. refl) tt (h, λ z. tt)
   begin_kept m mem s t (do_steal k) v l e h = starts m mem mem s t (steal k steal_front) v l e refl refl (λ j. refl) tt (λ u d. refl) tt (h, tt)
   begin_kept m mem s t (do_batch c k others) v l e h =

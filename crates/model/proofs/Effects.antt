@@ -10,7 +10,7 @@ use Rattle.model.specs.Stage.{resize_swap, PushStage, push_back, push_front, pus
 use Rattle.model.specs.Stage.{fifo_front, fifo_add, fifo_restore, fifo_read, LifoPopStage, lifo_back, lifo_front, lifo_store, lifo_reload}
 use Rattle.model.specs.Stage.{lifo_restore, lifo_last, lifo_exchange, job, lifo_won, lifo_read, own, Popper, StealStage, steal_front}
 use Rattle.model.specs.Stage.{steal_back, steal_ring, steal_read, steal_reload, steal_exchange, LengthStage, length_back, length_front}
-use Rattle.model.specs.Stage.{BatchKind, plain, andPop, Wanted, some, Haul, source, SourceStage, source_front, source_back, source_ring}
+use Rattle.model.specs.Stage.{BatchKind, plain, and_pop, Wanted, some, Haul, source, SourceStage, source_front, source_back, source_ring}
 use Rattle.model.specs.Stage.{source_first, all_copy, all_reload, all_exchange, one_first, one_back, one_read, one_reload, one_exchange}
 use Rattle.model.specs.Stage.{OwnStage, reserve_back, reserve_front, reserve_resize, own_back, all_write, one_write, swap_near, swap_far}
 use Rattle.model.specs.Stage.{swap_put, swap_last, own_store, Stage, idle, push, fifo_pop, lifo_pop, shrink, steal, len, own_batch, Answer, no_ring}
@@ -183,8 +183,8 @@ module _ (g : Offer) (fo : Flavour) (t : ℕ) where
       (λ u. by_stopped (D k (source k (source_ring w b)) q) fo k (hauling q.ring w b) 0 q (λ e z. still refl refl refl refl refl refl (λ j i h. absurd h))
       (λ z. still refl refl refl refl refl refl (λ j i h. inr h)) (still refl refl refl refl refl refl (λ j i h. inr h)))
       (λ u. still refl refl refl refl refl refl (λ j i h. inr h))
-  hold_does fifo k andPop w b q = still refl refl refl refl refl refl (λ j i h. inr h)
-  hold_does lifo k andPop w b q = still refl refl refl refl refl refl (λ j i h. inr h)
+  hold_does fifo k and_pop w b q = still refl refl refl refl refl refl (λ j i h. inr h)
+  hold_does lifo k and_pop w b q = still refl refl refl refl refl refl (λ j i h. inr h)
 
   first_does : (fs : Flavour) (k : ℕ) (h : Haul) (v : ℕ) (q : Queue) → D k (source k (source_first h)) q (going q (first_read fs k h v))
   first_does fifo k h v q = copy_does k (source_first h) (with_job h v) q (λ j i w. inl w)

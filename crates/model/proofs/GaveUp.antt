@@ -11,7 +11,7 @@ use Rattle.model.specs.Stage.{resize_front, resize_copy, resize_swap, PushStage,
 use Rattle.model.specs.Stage.{FifoPopStage, fifo_back, fifo_front, fifo_add, fifo_restore, fifo_read, LifoPopStage, lifo_back, lifo_front}
 use Rattle.model.specs.Stage.{lifo_store, lifo_reload, lifo_restore, lifo_last, lifo_exchange, job, lifo_won, lifo_read, own, Popper}
 use Rattle.model.specs.Stage.{StealStage, steal_front, steal_back, steal_ring, steal_read, steal_reload, steal_exchange, LengthStage}
-use Rattle.model.specs.Stage.{length_back, length_front, BatchKind, plain, andPop, InHand, none, some, Haul, source, SourceStage, source_front}
+use Rattle.model.specs.Stage.{length_back, length_front, BatchKind, plain, and_pop, InHand, none, some, Haul, source, SourceStage, source_front}
 use Rattle.model.specs.Stage.{source_back, source_ring, source_first, all_copy, all_reload, all_exchange, one_first, one_back, one_read}
 use Rattle.model.specs.Stage.{one_reload, one_exchange, OwnStage, reserve_back, reserve_front, reserve_resize, own_back, all_write, one_write}
 use Rattle.model.specs.Stage.{swap_near, swap_far, swap_put, swap_last, own_store, Stage, idle, push, fifo_pop, lifo_pop, shrink, steal, len}
@@ -128,8 +128,8 @@ module _ (g : Offer) (fo : Flavour) where
   hold_never : (fs : Flavour) (k : ℕ) (m : BatchKind) (h : Haul) (q : Queue) → Never (holding m fs fo k h q)
   hold_never fifo k plain h q = copy_never k h 0 q
   hold_never lifo k plain h q = by_test Never (leb h.n 0) _ _ (λ t. stop_never k h 0 q) (λ t u. u)
-  hold_never fifo k andPop h q = λ u. u
-  hold_never lifo k andPop h q = λ u. u
+  hold_never fifo k and_pop h q = λ u. u
+  hold_never lifo k and_pop h q = λ u. u
 
   first_never : (fs : Flavour) (k : ℕ) (h : Haul) (v : ℕ) (q : Queue) → Never (going q (first_read fs k h v))
   first_never fifo k h v q = copy_never k (with_job h v) 0 q

@@ -10,9 +10,9 @@ use Rattle.model.specs.Count.{upd}
 use Rattle.model.specs.Stage.{Flavour, fifo, lifo, Queue, cell, at, cap, set_front, set_cell, ResizeStage, resize_back, resize_front, resize_copy}
 use Rattle.model.specs.Stage.{resize_swap, PushStage, push_back, push_front, push_resize, push_write, push_store, FifoPopStage, fifo_back}
 use Rattle.model.specs.Stage.{fifo_front, fifo_add, fifo_restore, fifo_read, LifoPopStage, lifo_back, lifo_front, lifo_store, lifo_reload}
-use Rattle.model.specs.Stage.{lifo_restore, lifo_last, lifo_exchange, job, lifo_won, lifo_read, own, Popper, byPop, byBatch, StealStage}
+use Rattle.model.specs.Stage.{lifo_restore, lifo_last, lifo_exchange, job, lifo_won, lifo_read, own, Popper, by_pop, by_batch, StealStage}
 use Rattle.model.specs.Stage.{steal_front, steal_back, steal_ring, steal_read, steal_reload, steal_exchange, LengthStage, length_back}
-use Rattle.model.specs.Stage.{length_front, BatchKind, plain, andPop, some, Haul, source, SourceStage, source_front, source_back, source_ring}
+use Rattle.model.specs.Stage.{length_front, BatchKind, plain, and_pop, some, Haul, source, SourceStage, source_front, source_back, source_ring}
 use Rattle.model.specs.Stage.{source_first, all_copy, all_reload, all_exchange, one_first, one_back, one_read, one_reload, one_exchange}
 use Rattle.model.specs.Stage.{OwnStage, reserve_back, reserve_front, reserve_resize, own_back, all_write, one_write, swap_near, swap_far}
 use Rattle.model.specs.Stage.{swap_put, swap_last, own_store, Stage, idle, push, fifo_pop, lifo_pop, shrink, steal, len, own_batch, no_ring, Out}
@@ -169,8 +169,8 @@ module _ (m : ℕ) (q : Queue) (fm : q.front ≤ m) (bm : q.back ≤ m) where
   slow_held fifo fo k plain h = slow_copy k h
   slow_held lifo fo k plain h =
       by_test (Slowly m q.back 0) (leb h.n 0) _ _ (λ t. slow_stop fo k h 0 q refl) (λ t. omega arith)
-  slow_held fifo fo k andPop h = omega arith
-  slow_held lifo fo k andPop h = omega arith
+  slow_held fifo fo k and_pop h = omega arith
+  slow_held lifo fo k and_pop h = omega arith
 
   slow_first : (fs : Flavour) (k : ℕ) (h : Haul) (v : ℕ) → Slowly m q.back 0 (going q (first_read fs k h v))
   slow_first fifo k h v = slow_copy k (with_job h v)
@@ -306,11 +306,11 @@ module _ (n : ℕ) (fl : ℕ → Flavour) where
 
   own_free : (g : Flavour) (m : BatchKind) → (earned (from_own g m) ≡ 0) × (early (from_own g m) ≡ 0)
   own_free g plain = (refl, refl)
-  own_free g andPop = pop_free g byBatch
+  own_free g and_pop = pop_free g by_batch
 
   first_free : (g : Flavour) (t : ℕ) (o : Operation) → (earned (first_stage g t o) ≡ 0) × (early (first_stage g t o) ≡ 0)
   first_free g t (do_push x) = (refl, refl)
-  first_free g t do_pop = pop_free g byPop
+  first_free g t do_pop = pop_free g by_pop
   first_free g t (do_length k) = (refl, refl)
   first_free g t (do_steal k) = (refl, refl)
   first_free g t (do_batch m k others) = by_test (λ (x : Stage). (earned x ≡ 0) × (early x ≡ 0)) (eqb k t) _ _ (λ z. own_free g m) (λ z. (refl, refl))

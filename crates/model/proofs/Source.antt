@@ -6,7 +6,7 @@ use native.Mathlib.Nat.{le_refl}
 use lib.Dec.{leb, eqb}
 use Rattle.base.specs.Tests.{by_test, tests}
 use Rattle.model.specs.Count.{one, stand}
-use Rattle.model.specs.Stage.{Flavour, fifo, lifo, Queue, cell, at, cap, set_front, own, BatchKind, plain, andPop, Wanted, none, some, Haul}
+use Rattle.model.specs.Stage.{Flavour, fifo, lifo, Queue, cell, at, cap, set_front, own, BatchKind, plain, and_pop, Wanted, none, some, Haul}
 use Rattle.model.specs.Stage.{source, SourceStage, source_front, source_back, source_ring, source_first, all_copy, all_reload, all_exchange}
 use Rattle.model.specs.Stage.{one_first, one_back, one_read, one_reload, one_exchange, reserve_back, own_back, all_write, one_write, swap_near}
 use Rattle.model.specs.Stage.{own_store, Stage, idle, Answer, working, empty, retry, Out, out, going}
@@ -184,10 +184,10 @@ ring_held lifo fo k s q o mq a b plain mo w =
     by_test (Rob lifo fo k s q (source_ring a b) mq) (leb a.n 0) _ _ (λ t. absurd (let z = w.1 in let e : ⊥ = omega tests in e))
     (λ t. look lifo fo k s q o mq (source_ring a b) (source k (one_read h 0)) working mo refl refl
     (λ m j. omega (arith, stand_empty (at mq) b (b + 0) j (omega arith))) (λ m. tt) (refl, (tt, (w.0, omega arith, w.2), o.ring_top)) (mo.stage, omega tests))
-ring_held fifo fo k s q o mq a b andPop mo w =
+ring_held fifo fo k s q o mq a b and_pop mo w =
     look fifo fo k s q o mq (source_ring a b) (source k (source_first (hauling q.ring a b))) working mo refl refl (λ m j. refl) (λ m. tt)
     (refl, ((tt, omega arith, omega arith), (o.ring_top, λ x a c d. refl))) mo.stage
-ring_held lifo fo k s q o mq a b andPop mo w =
+ring_held lifo fo k s q o mq a b and_pop mo w =
     look lifo fo k s q o mq (source_ring a b) (source k (source_first (hauling q.ring a b))) working mo refl refl (λ m j. refl) (λ m. tt)
     (refl, ((w.0, omega arith, w.2), (o.ring_top, λ x a c d. refl))) mo.stage
 

@@ -2,8 +2,8 @@
 use Rattle.std.specs.Prelude.{Bool, true, false, ℕ, ◌<◌, eqb}
 use Rattle.base.specs.Tests.{pick}
 use Rattle.model.specs.Count.{upd}
-use Rattle.model.specs.Stage.{Flavour, fifo, lifo, Queue, push_back, fifo_back, lifo_back, own, Popper, byPop, byBatch, steal_front}
-use Rattle.model.specs.Stage.{length_back, BatchKind, plain, andPop, source, source_front, Stage, idle, push, fifo_pop, lifo_pop, shrink, steal}
+use Rattle.model.specs.Stage.{Flavour, fifo, lifo, Queue, push_back, fifo_back, lifo_back, own, Popper, by_pop, by_batch, steal_front}
+use Rattle.model.specs.Stage.{length_back, BatchKind, plain, and_pop, source, source_front, Stage, idle, push, fifo_pop, lifo_pop, shrink, steal}
 use Rattle.model.specs.Stage.{len, own_batch, working, Out}
 use Rattle.model.specs.Tables.{Offer, push_step, shrink_step, fifo_step, lifo_step, steal_step, length_step, own_batch_step, source_step, own_step}
 
@@ -83,11 +83,11 @@ popping lifo w = lifo_pop w lifo_back
 -- from the own queue a batch looks, and a batch and pop pops
 abbrev pub from_own : Flavour → BatchKind → Stage
 from_own fl plain = own_batch length_back
-from_own fl andPop = popping fl byBatch
+from_own fl and_pop = popping fl by_batch
 
 abbrev pub first_stage : Flavour → ℕ → Operation → Stage
 first_stage fl t (do_push x) = push x push_back
-first_stage fl t do_pop = popping fl byPop
+first_stage fl t do_pop = popping fl by_pop
 first_stage fl t (do_length k) = len k length_back
 first_stage fl t (do_steal k) = steal k steal_front
 first_stage fl t (do_batch m k others) = pick (eqb k t) (from_own fl m) (source k (source_front m others))

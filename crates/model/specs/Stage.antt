@@ -92,7 +92,7 @@ pub data LifoPopStage : Type 0 where
 
 -- who pops: a pop, or a batch and pop from the own queue
 pub data Popper : Type 0 where
-  byPop byBatch : Popper
+  by_pop by_batch : Popper
 
 pub data StealStage : Type 0 where
   steal_front : StealStage
@@ -107,7 +107,7 @@ pub data LengthStage : Type 0 where
   length_front : (b : ℕ) → LengthStage
 
 pub data BatchKind : Type 0 where
-  plain andPop : BatchKind
+  plain and_pop : BatchKind
 
 -- n jobs from f on are wanted
 pub record Wanted : Type 0 where

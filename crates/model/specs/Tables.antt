@@ -8,7 +8,7 @@ use Rattle.model.specs.Stage.{resize_front, resize_copy, resize_swap, PushStage,
 use Rattle.model.specs.Stage.{FifoPopStage, fifo_back, fifo_front, fifo_add, fifo_restore, fifo_read, LifoPopStage, lifo_back, lifo_front}
 use Rattle.model.specs.Stage.{lifo_store, lifo_reload, lifo_restore, lifo_last, lifo_exchange, job, lifo_won, lifo_read, own, Popper}
 use Rattle.model.specs.Stage.{StealStage, steal_front, steal_back, steal_ring, steal_read, steal_reload, steal_exchange, LengthStage}
-use Rattle.model.specs.Stage.{length_back, length_front, BatchKind, plain, andPop, Wanted, InHand, none, some, Haul, source, SourceStage}
+use Rattle.model.specs.Stage.{length_back, length_front, BatchKind, plain, and_pop, Wanted, InHand, none, some, Haul, source, SourceStage}
 use Rattle.model.specs.Stage.{source_front, source_back, source_ring, source_first, all_copy, all_reload, all_exchange, one_first, one_back}
 use Rattle.model.specs.Stage.{one_read, one_reload, one_exchange, OwnStage, reserve_back, reserve_front, reserve_resize, own_back, all_write}
 use Rattle.model.specs.Stage.{one_write, swap_near, swap_far, swap_put, swap_last, own_store, Stage, push, fifo_pop, lifo_pop, shrink, steal, len}
@@ -121,7 +121,7 @@ own_batch_step (length_front b) q = ended q (pick (leb b q.front) empty moved)
 -- n, of a difference d and a limit of others + 1
 abbrev pub wanted : BatchKind → (d others : ℕ) → ℕ
 wanted plain d others = min ((d + 1) / 2) (others + 1)
-wanted andPop d others = min ((d - 1) / 2) others
+wanted and_pop d others = min ((d - 1) / 2) others
 
 abbrev pub hauling : (r : ℕ) → Wanted → (b : ℕ) → Haul
 hauling r w b = record { ring = r; f = w.f; n = w.n; b = b; hand = none }
@@ -143,7 +143,7 @@ in_hand (some v) = 1
 
 abbrev pub to_hand : BatchKind → ℕ
 to_hand plain = 0
-to_hand andPop = 1
+to_hand and_pop = 1
 
 -- all at once, i copied: the next, or load ring
 abbrev pub copy_next : ℕ → Haul → ℕ → Stage
@@ -194,7 +194,7 @@ taking lifo fo k h q = pick (leb h.n 0) (stopped fo k h 0 q) (going q (source k 
 
 abbrev pub holding : BatchKind → Flavour → Flavour → ℕ → Haul → Queue → Out
 holding plain fs fo k h q = taking fs fo k h q
-holding andPop fs fo k h q = going q (source k (source_first h))
+holding and_pop fs fo k h q = going q (source k (source_first h))
 
 abbrev pub first_read : Flavour → ℕ → Haul → ℕ → Stage
 first_read fifo k h v = copy_next k (with_job h v) 0

@@ -18,11 +18,11 @@ pub record Form (A C B : Type 0) : Type 0 where
   pub result_is : (r : A) (c : C) → result (form r c) ≡ r
   pub rest_is : (r : A) (c : C) → rest (form r c) ≡ c
 
--- the result alone: `r ≡ v`
+-- the result alone: `result ≡ v`
 abbrev pub plain : {A : Type 0} → Form A Unit A
 plain = record { form = λ r c. r; result = λ v. v; rest = λ v. tt; result_is = λ r c. refl; rest_is = λ r c. refl }
 
--- the result beside the cells: `(r, now pool.exit) ≡ v`
+-- the result beside the cells: `(result, pool.new) ≡ v`
 abbrev pub paired : {A : Type 0} → Form A (List ℕ) (A × List ℕ)
 paired = record { form = λ r c. (r, c); result = λ v. v.0; rest = λ v. v.1; result_is = λ r c. refl; rest_is = λ r c. refl }
 
@@ -43,11 +43,11 @@ resized = record { form = resizing; result = λ v. v.resized; rest = λ v. v.cel
 abbrev pub acted : Form Stand (List ℕ × List ℕ) Scene
 acted = record { form = λ r c. scene r c.0 c.1; result = λ v. v.stand; rest = λ v. (v.cells, v.bytes); result_is = λ r c. refl; rest_is = λ r c. refl }
 
--- a part of what was lent, shown: `now r ≡ v`
+-- a part of what was lent, shown: `result.now ≡ v`
 abbrev pub shown : Form (List ℕ) Unit (List ℕ)
 shown = plain
 
--- no result, and one, two or three lists that were lent: `now x.exit ≡ v`, `(now x.exit, now y.exit) ≡ v`, ..
+-- no result, and one, two or three lists that were lent: `x.new ≡ v`, `(x.new, y.new) ≡ v`, ..
 abbrev pub lent : Form Unit (List ℕ) (List ℕ)
 lent = record { form = λ r c. c; result = λ v. tt; rest = λ v. v; result_is = λ r c. refl; rest_is = λ r c. refl }
 

@@ -1,7 +1,7 @@
 // Plays a session, read from standard input, and writes a line for each call. Where a line is put on the page there is room for any, so none is cut off.
 #![tactic(auto)]
 
-ghost use Rattle.std.specs.Prelude.{◌≡◌, true, ◌⊎◌, ◌≤◌, length};
+ghost use Rattle.std.specs.Prelude.{◌≡◌, true, ◌⊎◌, ◌≤◌, length, take};
 ghost use Rattle.writing.specs.Writing.{page as page_of, whole};
 ghost use Rattle.line.specs.Line.{longest_line, Room};
 ghost use Rattle.player.specs.Player.{end_text};
@@ -16,7 +16,8 @@ use std::io::Read;
 
 // A place on the page, and no more than its end.
 fn on_page(at: usize, page: &[u8]) -> usize
-    ensures { result ≤ length page.now }
+    ensures within { result ≤ length page.now }
+    ensures cut { result ≡ length (take result page.now) }
 {
     if at < page.len() { at } else { page.len() }
 }

@@ -37,7 +37,7 @@ use Rattle.machine.specs.Step.{gate_of, passing, ran, step_of}
 use Rattle.machine.specs.Begin.{begin_of}
 use Rattle.machine.specs.Begin as H
 use Rattle.model.specs.Stage.{Flavour, Queue, ResizeStage, resize_back, resize_front, resize_copy, resize_swap, PushStage, push_back, push_front}
-use Rattle.model.specs.Stage.{push_resize, push_write, push_store, job, own, byPop, byBatch, source, SourceStage, source_front, source_back, source_ring}
+use Rattle.model.specs.Stage.{push_resize, push_write, push_store, job, own, by_pop, by_batch, source, SourceStage, source_front, source_back, source_ring}
 use Rattle.model.specs.Stage.{source_first, all_copy, all_reload, all_exchange, one_first, one_back, one_read, one_reload, one_exchange, OwnStage}
 use Rattle.model.specs.Stage.{reserve_back, reserve_front, reserve_resize, own_back, all_write, one_write, swap_near, swap_far, swap_put, swap_last}
 use Rattle.model.specs.Stage.{own_store, Stage, idle, push, fifo_pop, lifo_pop, shrink, steal, len, own_batch, Answer, working, done, nothing, empty}
@@ -169,10 +169,10 @@ module _ (R : ℕ → ℕ → Ring) (new : Ring) where
   still_is : (a : Answer) (x : Stage) → still_early (answer_for a) (stage_for R new x) → StillEarly a x
   still_is working x h = subst (λ (A : Type 0). A) (early_is x) h
   still_is done x h = h
-  still_is (job byPop v) x h = h
-  still_is (job byBatch v) x h = h
-  still_is (nothing byPop) x h = h
-  still_is (nothing byBatch) x h = h
+  still_is (job by_pop v) x h = h
+  still_is (job by_batch v) x h = h
+  still_is (nothing by_pop) x h = h
+  still_is (nothing by_batch) x h = h
   still_is empty x h = h
   still_is (success v) x h = h
   still_is retry x h = h
@@ -185,10 +185,10 @@ module _ (R : ℕ → ℕ → Ring) (new : Ring) where
 goes_on : (a : Answer) (x : CodeStage) → GoesOn Step (answer_for a) → early x → still_early (answer_for a) x
 goes_on working x g h = h
 goes_on done x g h = g
-goes_on (job byPop v) x g h = g
-goes_on (job byBatch v) x g h = g
-goes_on (nothing byPop) x g h = g
-goes_on (nothing byBatch) x g h = g
+goes_on (job by_pop v) x g h = g
+goes_on (job by_batch v) x g h = g
+goes_on (nothing by_pop) x g h = g
+goes_on (nothing by_batch) x g h = g
 goes_on empty x g h = g
 goes_on (success v) x g h = g
 goes_on retry x g h = g
@@ -347,10 +347,10 @@ module _ (n : ℕ) (fl : ℕ → Flavour) (places t : ℕ) where
       go : (x : Call) → ((l : List ℕ) → lent_by x ≡ other l → length l ≡ m.place_count * place_cells → ⊥)
           → (thread_of x ≡ t → GoesOn (request_in x) (called_of m cells x).called.answer) → early (stage_at (called_of m cells x).called.machine t)
           → Dec (t ≡ thread_of x) → Own x
-      go x other-lists on soon (no d) = (subst early (elsewhere m cells x t d) soon, λ q. absurd (d (sym q)))
-      go (asks p u r) other-lists on soon (yes q) =
+      go x other_lists on soon (no d) = (subst early (elsewhere m cells x t d) soon, λ q. absurd (d (sym q)))
+      go (asks p u r) other_lists on soon (yes q) =
           subst (λ (u : ℕ). Soon (asks p u r)) q
-          (λ on soon. (let w = call_back n fl jobs c lc m cells b t p r other-lists (on refl, soon) in (w.0, λ z. w.1))) on soon
+          (λ on soon. (let w = call_back n fl jobs c lc m cells b t p r other_lists (on refl, soon) in (w.0, λ z. w.1))) on soon
 
 -- ---- in a session
 

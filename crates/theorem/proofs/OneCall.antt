@@ -16,7 +16,7 @@ use Rattle.machine.specs.Sound.{sound_b}
 use Rattle.machine.specs.Step.{gate_of, step_of}
 use Rattle.gate.specs.Gate.{names_b, limit_b, begin_tests}
 use Rattle.machine.specs.Begin.{begin_of}
-use Rattle.model.specs.Stage.{Flavour, job, own, byPop, byBatch, source, Stage, idle, push, fifo_pop, lifo_pop, shrink, steal, len, own_batch, Answer}
+use Rattle.model.specs.Stage.{Flavour, job, own, by_pop, by_batch, source, Stage, idle, push, fifo_pop, lifo_pop, shrink, steal, len, own_batch, Answer}
 use Rattle.model.specs.Stage.{working, done, nothing, empty, success, retry, moved, two_numbers, too_large, no_ring}
 use Rattle.model.specs.Tables.{Offer}
 use Rattle.model.specs.Machine.{State, touched, busy, step_out, stepped, begun, wish}
@@ -38,10 +38,10 @@ use Rattle.theorem.specs.History.{wished, jobs_after, Allowed}
 accepts_is : (m : ℕ) (a : Answer) (j : ℕ) → accepted_by m (answer_for a) j ≡ accepts m a j
 accepts_is m working j = refl
 accepts_is m done j = refl
-accepts_is m (job byPop v) j = refl
-accepts_is m (job byBatch v) j = refl
-accepts_is m (nothing byPop) j = refl
-accepts_is m (nothing byBatch) j = refl
+accepts_is m (job by_pop v) j = refl
+accepts_is m (job by_batch v) j = refl
+accepts_is m (nothing by_pop) j = refl
+accepts_is m (nothing by_batch) j = refl
 accepts_is m empty j = refl
 accepts_is m (success v) j = refl
 accepts_is m retry j = refl
@@ -53,10 +53,10 @@ accepts_is m no_ring j = refl
 gives_is : (a : Answer) (j : ℕ) → answered_by (answer_for a) j ≡ gives a j
 gives_is working j = refl
 gives_is done j = refl
-gives_is (job byPop v) j = refl
-gives_is (job byBatch v) j = refl
-gives_is (nothing byPop) j = refl
-gives_is (nothing byBatch) j = refl
+gives_is (job by_pop v) j = refl
+gives_is (job by_batch v) j = refl
+gives_is (nothing by_pop) j = refl
+gives_is (nothing by_batch) j = refl
 gives_is empty j = refl
 gives_is (success v) j = refl
 gives_is retry j = refl
@@ -68,10 +68,10 @@ gives_is no_ring j = refl
 allowed_is : (a : Answer) → Allowed pool (answer_for a)
 allowed_is working = tt
 allowed_is done = tt
-allowed_is (job byPop v) = tt
-allowed_is (job byBatch v) = tt
-allowed_is (nothing byPop) = tt
-allowed_is (nothing byBatch) = tt
+allowed_is (job by_pop v) = tt
+allowed_is (job by_batch v) = tt
+allowed_is (nothing by_pop) = tt
+allowed_is (nothing by_batch) = tt
 allowed_is empty = tt
 allowed_is (success v) = tt
 allowed_is retry = tt

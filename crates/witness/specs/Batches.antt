@@ -111,7 +111,7 @@ c7_lifo =
     shot (3 ∷ 2 ∷ []) 3 2 ∷
     []
 
-pub from-fifo :
+pub from_fifo :
     film 15 1 (begun (Fifo ∷ Fifo ∷ []) 5 (Batch 0 10)) ∷
     film 15 1 (begun (Fifo ∷ Lifo ∷ []) 5 (Batch 0 10)) ∷
     film 14 1 (begun (Fifo ∷ Fifo ∷ []) 5 (BatchAndPop 0 10)) ∷
@@ -119,7 +119,7 @@ pub from-fifo :
     [] ≡
     c3 ∷ c4 ∷ c7 ∷ c7_lifo ∷ []
 unfolding film repeated finish all_below any_below first_not wrap plus_of minus_of difference_of length_of behind_b empty_b full_b spans_b same_b cell_of allowed_b twice_of doubled holding_of stands_b spot read_of written_of sound_b free_ring setup_of gate_of step_of begin_of ones ones_in
-from-fifo = refl
+from_fifo = refl
 
 -- ---- LIFO source 1..5, limit 10: read cell f; load ring; compare-exchange f to f + 1; write own cell; from the second on, load back first
 
@@ -201,7 +201,7 @@ two_swaps =
     shot7 (4 ∷ 3 ∷ 2 ∷ 1 ∷ []) 4 ∷
     []
 
-pub from-lifo :
+pub from_lifo :
     film 21 1 (begun (Lifo ∷ Lifo ∷ []) 5 (Batch 0 10)) ∷
     film 25 1 (begun (Lifo ∷ Fifo ∷ []) 5 (Batch 0 10)) ∷
     film 19 1 (begun (Lifo ∷ Lifo ∷ []) 5 (BatchAndPop 0 10)) ∷
@@ -210,7 +210,7 @@ pub from-lifo :
     [] ≡
     c5 ∷ c6 ∷ c8 ∷ c8_fifo ∷ two_swaps ∷ []
 unfolding film repeated finish all_below any_below first_not wrap plus_of minus_of difference_of length_of behind_b empty_b full_b spans_b same_b cell_of allowed_b twice_of doubled holding_of stands_b spot read_of written_of sound_b free_ring setup_of gate_of step_of begin_of ones ones_in
-from-lifo = refl
+from_lifo = refl
 
 -- ---- few jobs and small limits, run alone: what thread 1 answers, in how many steps, and what the queues then hold
 

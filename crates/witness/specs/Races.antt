@@ -84,14 +84,14 @@ won =
     working 7 7 8 ++
     (working 3 7 7 ++ seen A.Working 8 7 ∷ seen (A.Stolen Retry) 8 7 ∷ seen (A.Job 7) 8 8 ∷ [])
 
-pub last-job :
+pub last_job :
     played (0 ∷ 0 ∷ 1 ∷ 1 ∷ 1 ∷ 1 ∷ 1 ∷ 1 ∷ 0 ∷ 0 ∷ 0 ∷ []) both ∷
     played (1 ∷ 1 ∷ 0 ∷ 0 ∷ 0 ∷ 0 ∷ 0 ∷ 1 ∷ 1 ∷ 1 ∷ 1 ∷ 0 ∷ 0 ∷ []) both ∷
     played (1 ∷ 1 ∷ 1 ∷ 1 ∷ 1 ∷ 0 ∷ 0 ∷ 0 ∷ 0 ∷ 0 ∷ 0 ∷ 1 ∷ 0 ∷ []) both ∷
     [] ≡
     taken ∷ lost ∷ won ∷ []
 unfolding from played all_below any_below first_not wrap plus_of minus_of difference_of length_of behind_b empty_b spans_b same_b cell_of allowed_b stands_b spot read_of sound_b free_ring gate_of step_of begin_of ones ones_in
-last-job = refl
+last_job = refl
 
 -- ---- capacity 128: the owner does two steps of a pop, a thief takes so many jobs, and the owner goes on: its answer, its steps, and the capacity
 

@@ -110,15 +110,15 @@ take_one s p = go s ∙ ap T.One p
     go (E.ReloadRing i job) = refl
     go (E.Exchange i job) = refl
 
-pub source-load-ring :
+pub source_load_ring :
     (h : Wanted) (b : Index) →
     wanted_of (with_wanted h (bare 2)) ≡ h → index_of (index_word b) ≡ b → source_of (with_b b (with_wanted h (bare 2))) ≡ S.LoadRing h b
-source-load-ring h b p q = λ i. S.LoadRing (p i) (q i)
+source_load_ring h b p q = λ i. S.LoadRing (p i) (q i)
 
-pub source-take :
+pub source_take :
     (h : Haul) (s : TakeStage) →
     haul_of (with_haul h (take_words s)) ≡ h → take_of (take_words s) ≡ s → source_of (with_haul h (take_words s)) ≡ S.Take h s
-source-take h s p q = go s ∙ (λ i. S.Take (p i) (q i))
+source_take h s p q = go s ∙ (λ i. S.Take (p i) (q i))
   where
     go : (s : TakeStage) → source_of (with_haul h (take_words s)) ≡ S.Take (haul_of (with_haul h (take_words s))) (take_of (take_words s))
     go T.ReadFirst = refl
@@ -151,10 +151,10 @@ put_swap x s p = go s ∙ ap (W.Swap x) p
     go (X.WriteNear near far) = refl
     go (X.WriteFar near) = refl
 
-pub own-reserve :
+pub own_reserve :
     (h : Wanted) (s : ReserveStage) →
     wanted_of (with_wanted h (reserve_words s)) ≡ h → reserve_of (reserve_words s) ≡ s → own_of (with_wanted h (reserve_words s)) ≡ O.Reserve h s
-own-reserve h s p q = go s ∙ (λ i. O.Reserve (p i) (q i))
+own_reserve h s p q = go s ∙ (λ i. O.Reserve (p i) (q i))
   where
     go : (s : ReserveStage) → own_of (with_wanted h (reserve_words s)) ≡ O.Reserve (wanted_of (with_wanted h (reserve_words s))) (reserve_of (reserve_words s))
     go Y.LoadBack = refl

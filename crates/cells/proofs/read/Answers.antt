@@ -1,7 +1,7 @@
 -- A ring that stands has its stretch within the pool, and the index's cell within the stretch; a ring that does not is read as 0.
 use mathlib.Core.Path.{◌∙◌}
 use native.Mathlib.Omega.{arith}
-use Rattle.cells.proofs.StandLaws.{opened, opened_standing, at_below, got}
+use Rattle.cells.proofs.StandLaws.{opened, opened_standing, at_inside, got}
 use Rattle.cells.proofs.read.Goals as goal
 
 pub overflow_mul-start : goal.overflow_mul-start
@@ -26,7 +26,10 @@ slice_bounds-get-end c =
 
 pub get-requires : goal.get-requires
 get-requires c =
-    at_below _ _ _ _ (opened _ _ _ c.stands.ensures c.if-not-stands.false) c.cell-at.ensures
+    let s = opened_standing _ _ _ c.stands.ensures c.if-not-stands.false in
+    let m = s.room in
+    let u = s.allowed.high in
+    at_inside _ _ _ _ _ s (omega arith) c.cell-at.ensures
 
 pub returns : goal.returns
 returns c =

@@ -15,12 +15,11 @@ returns-then-values-i c =
 
 pub loop-i-preserved : goal.loop-i-preserved
 loop-i-preserved c =
-    let l = c in
-    let a = l.args in
-    let h : l.loop-i.i < length a.numbers.now = omega arith in
-    let g : l.loop-i.i < length a.values.now = omega arith in (
+    let a = c.args in
+    let h : c.loop-i.i < length a.numbers.now = omega arith in
+    let g : c.loop-i.i < length a.values.now = omega arith in (
       omega arith,
-      rw (add-one, answers_suc a.numbers.now a.values.now l.loop-i.i h g, collected_snoc, ← l.loop-i.invariant.1, ← c.of.ensures)
+      rw (add-one, answers_suc a.numbers.now a.values.now c.loop-i.i h g, collected_snoc, ← c.loop-i.invariant.1, ← c.of.ensures)
           c.or_else-r.ensures,
     )
 

@@ -6,9 +6,8 @@ use Rattle.index.proofs.Index.cell.Goals as goal
 
 pub returns-then-capacity-eq1 : goal.returns-then-capacity-eq1
 returns-then-capacity-eq1 c =
-    let s = c in
-    let i = s.args.self in
-    let n = s.args.capacity in
+    let i = c.args.self in
+    let n = c.args.capacity in
     rw
     (cell_is i n (omega arith))
-    (masked i.0 n c.bits.result s.ranges.capacity.fits c.if-capacity-eq1.true (rw (back i.0 c.struct_told-1.given.0.1) at c.bits.ensures))
+    (masked i.0 n c.bits.result c.ranges.capacity.fits c.if-capacity-eq1.true (rw (back i.0 c.struct_told-1.given.0.1) at c.bits.ensures))
