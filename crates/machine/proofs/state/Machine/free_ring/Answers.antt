@@ -1,4 +1,4 @@
--- `free_ring` is `free_ring`, by what its calls ensure.
+-- The ring that a claim finds is that of the first place that none uses, by what its calls ensure.
 use Rattle.machine.specs.Claim.{free_ring}
 use Rattle.machine.proofs.KeptLaws.{row_free}
 use Rattle.machine.proofs.state.Machine.free_ring.Goals as goal
