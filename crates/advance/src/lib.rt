@@ -2,134 +2,39 @@
 #![tactic(auto)]
 
 ghost use Rattle.std.specs.Prelude.{◌≡◌};
-ghost use Rattle.parts.specs.Out.{left, going};
-ghost use Rattle.op_push.specs.Push.{push_of};
-ghost use Rattle.op_pop.specs.Pop.{pop_of};
-ghost use Rattle.op_steal.specs.Steal.{steal_of};
-ghost use Rattle.op_length.specs.Length.{length_step_of, own_batch_of};
-ghost use Rattle.op_batch_source.specs.Source.{source_of};
-ghost use Rattle.op_batch_own.specs.Own.{own_of};
-ghost use Rattle.advance.specs.Advance.{of_push, of_pop, of_steal, of_length, of_own_batch, of_batch, beside, advance_of};
+ghost use Rattle.parts.specs.Out.{left, out_of};
+ghost use Rattle.advance.specs.Advance.{batch_at, advance_of};
 
-use op_batch::BatchOut;
 use op_batch_own::own_step;
 use op_batch_source::source_step;
-use op_length::{LengthOut, length_step, own_batch_step};
+use op_length::{length_step, own_batch_step};
 use op_pop::pop_step;
-use op_push::{PushOut, push_step};
-use op_shrink::PopOut;
-use op_steal::{StealOut, steal_step};
+use op_push::push_step;
+use op_steal::steal_step;
 use parts::answer::{Answer, Refusal};
-use parts::out::{Claim, Out};
+use parts::out::{Claim, Out, StepOut};
 use parts::queue::{Flavor, Queue};
-use parts::stage::{
-    LengthStage, OwnStage, PopStage, Popper, PushStage, SourceStage, Stage, StealStage,
-};
+use parts::stage::{BatchStage, Stage};
 
-// What an operation's step leaves, as the thread's stage and answer.
-fn push_at(job: u64, at: PushStage, q: Queue, claim: Claim, pool: &mut [u64]) -> Out
-    ensures { left result pool.new ≡ beside (of_push job) (push_of job at q claim pool.old) }
+// What an operation's step left, as the thread's stage and answer; stage makes the thread's stage of the operation's.
+fn out_of<S, F: FnOnce(S) -> Stage>(left: StepOut<S>, stage: F) -> Out
+    requires { F.IsAlwaysCallable stage }
+    ensures { (at : S → Stage) → ((s : S) (r : Stage) → F.post stage s r → r ≡ at s) → result ≡ out_of at left }
 {
-    match push_step(job, at, q, claim, pool) {
-        PushOut::Going(r, next) => {
-            return Out::going(r, Stage::Push(job, next));
-        }
-        PushOut::Ended(r, answer) => {
-            return Out::ended(r, answer);
-        }
+    match left {
+        StepOut::Going(q, next) => Out::going(q, stage(next)),
+        StepOut::Ended(q, answer) => Out::ended(q, answer),
     }
 }
 
-fn pop_at(popper: Popper, at: PopStage, q: Queue, claim: Claim, pool: &mut [u64]) -> Out
-    ensures { left result pool.new ≡ beside (of_pop popper) (pop_of popper at q claim pool.old) }
+// The thread's stage at a stage of a batch from this source.
+fn batch_at(source: usize, at: BatchStage) -> Stage
+    ensures { result ≡ batch_at source at }
 {
-    match pop_step(popper, at, q, claim, pool) {
-        PopOut::Going(r, next) => {
-            return Out::going(r, Stage::Pop(popper, next));
-        }
-        PopOut::Ended(r, answer) => {
-            return Out::ended(r, answer);
-        }
+    match at {
+        BatchStage::Source(at) => Stage::BatchSource(source, at),
+        BatchStage::Own(at) => Stage::BatchOwn(source, at),
     }
-}
-
-fn steal_at(source: usize, at: StealStage, q: Queue, pool: &[u64]) -> Out
-    ensures { result ≡ of_steal source (steal_of at q pool.now) }
-{
-    match steal_step(at, q, pool) {
-        StealOut::Going(r, next) => {
-            return Out::going(r, Stage::Steal(source, next));
-        }
-        StealOut::Ended(r, answer) => {
-            return Out::ended(r, answer);
-        }
-    }
-}
-
-fn length_at(queue: usize, at: LengthStage, q: Queue) -> Out
-    ensures { result ≡ of_length queue (length_step_of at q) }
-{
-    match length_step(at, q) {
-        LengthOut::Going(r, next) => {
-            return Out::going(r, Stage::Length(queue, next));
-        }
-        LengthOut::Ended(r, answer) => {
-            return Out::ended(r, answer);
-        }
-    }
-}
-
-fn own_batch_at(at: LengthStage, q: Queue) -> Out
-    ensures { result ≡ of_own_batch (own_batch_of at q) }
-{
-    match own_batch_step(at, q) {
-        LengthOut::Going(r, next) => {
-            return Out::going(r, Stage::OwnBatch(next));
-        }
-        LengthOut::Ended(r, answer) => {
-            return Out::ended(r, answer);
-        }
-    }
-}
-
-fn to_source(source: usize, q: Queue, at: SourceStage) -> Out
-    ensures { result ≡ going q (Stage.BatchSource source at) }
-{
-    Out::going(q, Stage::BatchSource(source, at))
-}
-
-fn to_own(source: usize, q: Queue, at: OwnStage) -> Out
-    ensures { result ≡ going q (Stage.BatchOwn source at) }
-{
-    Out::going(q, Stage::BatchOwn(source, at))
-}
-
-fn of_batch(source: usize, out: BatchOut) -> Out
-    ensures { result ≡ of_batch source out }
-{
-    match out {
-        BatchOut::Source(q, at) => {
-            return to_source(source, q, at);
-        }
-        BatchOut::Own(q, at) => {
-            return to_own(source, q, at);
-        }
-        BatchOut::Ended(q, answer) => {
-            return Out::ended(q, answer);
-        }
-    }
-}
-
-fn source_at(own: Flavor, source: usize, at: SourceStage, q: Queue, pool: &[u64]) -> Out
-    ensures { result ≡ of_batch source (source_of own at q pool.now) }
-{
-    of_batch(source, source_step(own, at, q, pool))
-}
-
-fn own_at(source: usize, at: OwnStage, q: Queue, claim: Claim, pool: &mut [u64]) -> Out
-    ensures { left result pool.new ≡ beside (of_batch source) (own_of at q claim pool.old) }
-{
-    of_batch(source, own_step(at, q, claim, pool))
 }
 
 // own: the flavour of the thread's own queue; q: the queue that the step touches; claim: what a claim found, where the step makes one.
@@ -137,29 +42,34 @@ pub fn advance(stage: Stage, own: Flavor, q: Queue, claim: Claim, pool: &mut [u6
     ensures { left result pool.new ≡ advance_of stage own q claim pool.old }
 {
     match stage {
-        Stage::Idle => {
-            return Out::ended(q, Answer::Refused(Refusal::Idle));
-        }
+        Stage::Idle => Out::ended(q, Answer::Refused(Refusal::Idle)),
         Stage::Push(job, at) => {
-            return push_at(job, at, q, claim, pool);
+            let left = push_step(job, at, q, claim, pool);
+            out_of(left, |next| Stage::Push(job, next))
         }
         Stage::Pop(popper, at) => {
-            return pop_at(popper, at, q, claim, pool);
+            let left = pop_step(popper, at, q, claim, pool);
+            out_of(left, |next| Stage::Pop(popper, next))
         }
         Stage::Steal(source, at) => {
-            return steal_at(source, at, q, pool);
+            let left = steal_step(at, q, pool);
+            out_of(left, |next| Stage::Steal(source, next))
         }
         Stage::Length(queue, at) => {
-            return length_at(queue, at, q);
+            let left = length_step(at, q);
+            out_of(left, |next| Stage::Length(queue, next))
         }
         Stage::OwnBatch(at) => {
-            return own_batch_at(at, q);
+            let left = own_batch_step(at, q);
+            out_of(left, |next| Stage::OwnBatch(next))
         }
         Stage::BatchSource(source, at) => {
-            return source_at(own, source, at, q, pool);
+            let left = source_step(own, at, q, pool);
+            out_of(left, |next| batch_at(source, next))
         }
         Stage::BatchOwn(source, at) => {
-            return own_at(source, at, q, claim, pool);
+            let left = own_step(at, q, claim, pool);
+            out_of(left, |next| batch_at(source, next))
         }
     }
 }

@@ -1,25 +1,8 @@
--- By which a loop finds what holds of every number below n, of some, and the first of which it does not hold.
-use mathlib.Core.Bool.{Bool, true, false, ◌&&◌, ◌||◌}
-use mathlib.Core.Path.{◌≡◌, refl}
-use Prim.Native.Nat.{ℕ, zero, suc, ◌+◌, ◌-◌, ◌<◌}
+-- One number that decides what holds of every number below n, or of some, and the first of which it does not hold.
+use Rattle.std.proofs.Common.{◌≡◌, ℕ, zero, suc, ◌+◌, ◌<◌, Bool, true, false, ◌&&◌, ◌||◌, ap, ◌∙◌, arith}
+use Rattle.std.proofs.Math.Bool.{and-false, or-true}
 use native.Mathlib.Decide.{ℕ_discrete}
-use native.Mathlib.Numerals.{add-one}
-use native.Mathlib.Omega.{arith}
 use Rattle.base.specs.Below.{all_below, any_below, first_not}
-
--- ---- all
-
-pub all_none : (f : ℕ → Bool) → all_below 0 f ≡ true
-unfolding all_below
-all_none f = refl
-
-pub all_next : (i : ℕ) (f : ℕ → Bool) → all_below i f ≡ true → f i ≡ true → all_below (i + 1) f ≡ true
-unfolding all_below
-all_next i f h e = rw (add-one, h, e)
-
-and_false : (b : Bool) → (b && false) ≡ false
-and_false true = refl
-and_false false = refl
 
 pub all_not : (n i : ℕ) (f : ℕ → Bool) → i < n → f i ≡ false → all_below n f ≡ false
 unfolding all_below
@@ -27,22 +10,8 @@ all_not zero i f l e = absurd (omega arith)
 all_not (suc n) i f l e = go (λ m. all_not n i f m e) (ℕ_discrete i n)
   where
     go : (i < n → all_below n f ≡ false) → Dec (i ≡ n) → (all_below n f && f n) ≡ false
-    go r (yes p) = rw (← p, e) (and_false (all_below i f))
+    go r (yes p) = rw (← p, e) (and-false (all_below i f))
     go r (no p) = rw (r (omega arith))
-
--- ---- any
-
-or_true : (b : Bool) → (b || true) ≡ true
-or_true true = refl
-or_true false = refl
-
-pub any_none : (f : ℕ → Bool) → any_below 0 f ≡ false
-unfolding any_below
-any_none f = refl
-
-pub any_next : (i : ℕ) (f : ℕ → Bool) → any_below i f ≡ false → f i ≡ false → any_below (i + 1) f ≡ false
-unfolding any_below
-any_next i f h e = rw (add-one, h, e)
 
 pub any_at : (n i : ℕ) (f : ℕ → Bool) → i < n → f i ≡ true → any_below n f ≡ true
 unfolding any_below
@@ -50,20 +19,26 @@ any_at zero i f l e = absurd (omega arith)
 any_at (suc n) i f l e = go (λ m. any_at n i f m e) (ℕ_discrete i n)
   where
     go : (i < n → any_below n f ≡ true) → Dec (i ≡ n) → (any_below n f || f n) ≡ true
-    go r (yes p) = rw (← p, e) (or_true (any_below i f))
+    go r (yes p) = rw (← p, e) (or-true (any_below i f))
     go r (no p) = rw (r (omega arith))
 
--- ---- the first of n numbers of which f does not hold, looked for from i on
+-- ---- the first of n numbers from a on of which f does not hold
 
-pub first_here : (f : ℕ → Bool) (n i : ℕ) → i < n → f i ≡ false → first_not f (n - i) i ≡ i
+pub first_at : (f : ℕ → Bool) (n a k : ℕ) → k < n → f (a + k) ≡ false → ((j : ℕ) → j < k → f (a + j) ≡ true) → first_not f n a ≡ a + k
 unfolding first_not
-first_here f n i l e = let s : n - i ≡ suc (n - suc i) = omega arith in rw (s, e)
+first_at f zero a k l e h = absurd (omega arith)
+first_at f (suc n) a zero l e h = let z : a ≡ a + 0 = omega arith in let t : f a ≡ false = ap f z ∙ e in rw t z
+first_at f (suc n) a (suc k) l e h =
+    let z : a ≡ a + 0 = omega arith in
+    let t : f a ≡ true = ap f z ∙ h 0 (omega arith) in
+    let p : a + 1 + k ≡ a + suc k = omega arith in
+    rw t (first_at f n (a + 1) k (omega arith) (ap f p ∙ e) (λ j m. let q : a + 1 + j ≡ a + suc j = omega arith in ap f q ∙ h (suc j) (omega arith)) ∙ p)
 
-pub first_later : (f : ℕ → Bool) (n i : ℕ) → i < n → f i ≡ true → first_not f (n - i) i ≡ first_not f (n - (i + 1)) (i + 1)
+pub first_none : (f : ℕ → Bool) (n a : ℕ) → ((j : ℕ) → j < n → f (a + j) ≡ true) → first_not f n a ≡ a + n
 unfolding first_not
-first_later f n i l e =
-    let s : n - i ≡ suc (n - (i + 1)) = omega arith in rw (s, e)
-
-pub first_none : (f : ℕ → Bool) (n : ℕ) → first_not f (n - n) n ≡ n
-unfolding first_not
-first_none f n = let s : n - n ≡ 0 = omega arith in rw s
+first_none f zero a h = omega arith
+first_none f (suc n) a h =
+    let z : a ≡ a + 0 = omega arith in
+    let t : f a ≡ true = ap f z ∙ h 0 (omega arith) in
+    let p : a + 1 + n ≡ a + suc n = omega arith in
+    rw t (first_none f n (a + 1) (λ j m. let q : a + 1 + j ≡ a + suc j = omega arith in ap f q ∙ h (suc j) (omega arith)) ∙ p)

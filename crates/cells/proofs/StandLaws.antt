@@ -10,6 +10,8 @@ use lib.ListN.{length, get_or, set, drop, length-set}
 use lib.Seq.{get_or-take, get_or-drop, get_or-set_same, get_or-set_other}
 use borrow.Author.Tests.{ltb-true, lt-ltb}
 use borrow.Rule.Slice.PartMut.{put_mid, mid_of, set_mid_at, mid_len}
+use Rattle.std.specs.Prelude.{Some, None}
+use Rattle.std.specs.declared.ops.Range.{Range}
 use Rattle.base.specs.Tests.{pick, by_test, both}
 use Rattle.index.specs.declared.Index.{Index}
 use Rattle.index.specs.Index.{cell_of}
@@ -17,7 +19,7 @@ use Rattle.index.proofs.Laws.{cell_below}
 use Rattle.ring.specs.declared.Ring.{Ring}
 use Rattle.ring.specs.Capacity.{allowed_b}
 use Rattle.ring.proofs.CapacityLaws.{Allowed, allowed_is, is_allowed}
-use Rattle.cells.specs.Cells.{place_cells, stands_b, spot, read_of, written_of}
+use Rattle.cells.specs.Cells.{place_cells, stands_b, stretch_of, spot, read_of, written_of}
 
 -- ---- when a ring stands
 
@@ -48,16 +50,6 @@ stands_placed cells n r l p a =
 pub stands_length : (xs ys : List ℕ) (r : Ring) → length xs ≡ length ys → stands_b xs r ≡ stands_b ys r
 unfolding stands_b
 stands_length xs ys r e = rw e
-
--- the test as the code has it
-pub opened : (b : Bool) (cells : List ℕ) (r : Ring) → b ≡ stands_b cells r → b ≡ true → stands_b cells r ≡ true
-opened b cells r e t = sym e ∙ t
-
-pub shut : (b : Bool) (cells : List ℕ) (r : Ring) → b ≡ stands_b cells r → b ≡ false → stands_b cells r ≡ false
-shut b cells r e t = sym e ∙ t
-
-pub opened_standing : (b : Bool) (cells : List ℕ) (r : Ring) → b ≡ stands_b cells r → b ≡ true → Standing cells r
-opened_standing b cells r e t = standing cells r (opened b cells r e t)
 
 -- ---- where a cell lies
 
@@ -158,42 +150,43 @@ pub read_other_place : (cells : List ℕ) (r s : Ring) (i j : Index) (job : ℕ)
 read_other_place cells r s i j job d =
     read_apart cells r s i j job (λ p q. spot_places cells r s i j (standing cells r p) (standing cells s q) d)
 
--- ---- the stretch, as the code lends it: from its start, of so many cells
+-- ---- the stretch, as the code lends it
 
-abbrev pub start : Ring → ℕ
-start r = r.place.0 * place_cells
+-- a ring that has one stands, and it is from the ring's start on
+pub has_stretch : (cells : List ℕ) (r : Ring) (s : Range ℕ) → Some s ≡ stretch_of cells r
+    → (stands_b cells r ≡ true) × (s.start ≡ r.place.0 * place_cells) × (s.end ≡ r.place.0 * place_cells + r.capacity)
+has_stretch cells r s e = go (stands_b cells r) refl e
+  where
+    go : (b : Bool) → stands_b cells r ≡ b → Some s ≡ pick b (Some (record { start = r.place.0 * place_cells; end = r.place.0 * place_cells + r.capacity })) None
+        → (stands_b cells r ≡ true) × (s.start ≡ r.place.0 * place_cells) × (s.end ≡ r.place.0 * place_cells + r.capacity)
+    go true t f =
+        let h : ◌≡◌ {A = Range ℕ} s (record { start = r.place.0 * place_cells; end = r.place.0 * place_cells + r.capacity }) = cc in
+        (t, ap (λ (x : Range ℕ). x.start) h, ap (λ (x : Range ℕ). x.end) h)
+    go false t f = absurd (let z : ◌≡◌ {A = ℕ} 0 1 = cc in omega arith)
 
-abbrev pub size : Ring → ℕ
-size r = start r + r.capacity - start r
+module _ (cells : List ℕ) (r : Ring) (i : Index) (at : ℕ) (s : Range ℕ) (e : Some s ≡ stretch_of cells r) (l : s.end ≤ length cells) (p : at ≡ cell_of i r.capacity) where
+  abbrev pub lent : List ℕ
+  lent = mid_of s.start (s.end - s.start) cells
 
--- an index's cell is one of it, wherever in the pool it starts
-pub at_inside : (cells : List ℕ) (r : Ring) (i : Index) (at from : ℕ) → Standing cells r → from + r.capacity ≤ length cells → at ≡ cell_of i r.capacity
-    → at < length (mid_of from (from + r.capacity - from) cells)
-at_inside cells r i at from s l e =
-    let b = cell_inside cells r i s in
-    rw (mid_len from (from + r.capacity) cells l) (omega arith)
+  -- an index's cell is one of it
+  pub at_inside : at < length lent
+  at_inside =
+      let h = has_stretch cells r s e in
+      let b = cell_inside cells r i (standing cells r h.0) in
+      rw (mid_len s.start s.end cells l) (omega arith)
 
-pub at_below : (cells : List ℕ) (r : Ring) (i : Index) (at : ℕ) → stands_b cells r ≡ true → at ≡ cell_of i r.capacity
-    → at < length (mid_of (start r) (size r) cells)
-at_below cells r i at s e =
-    let t = standing cells r s in
-    let m = t.room in
-    let u = t.allowed.high in
-    at_inside cells r i at (start r) t (omega arith) e
+  -- what stands in that cell is what is read
+  pub got : get_or lent at 0 ≡ read_of cells r i
+  unfolding read_of spot
+  got =
+      let h = has_stretch cells r s e in
+      let b = cell_inside cells r i (standing cells r h.0) in
+      let g : at < s.end - s.start = omega arith in
+      rw (h.0, get_or-take (s.end - s.start) (drop s.start cells) at 0 g, get_or-drop, h.1, p)
 
--- what stands in that cell is what is read
-pub got : (cells : List ℕ) (r : Ring) (i : Index) (at : ℕ) → stands_b cells r ≡ true → at ≡ cell_of i r.capacity
-    → get_or (mid_of (start r) (size r) cells) at 0 ≡ read_of cells r i
-unfolding read_of spot
-got cells r i at s e =
-    let b = cell_inside cells r i (standing cells r s) in
-    let h : at < size r = omega arith in
-    rw (s, get_or-take (size r) (drop (start r) cells) at 0 h, get_or-drop, e)
-
--- a job put there is written to the pool
-pub put_back_lem : (cells last : List ℕ) (r : Ring) (i : Index) (at job : ℕ) → stands_b cells r ≡ true → at ≡ cell_of i r.capacity
-    → last ≡ set (mid_of (start r) (size r) cells) at job
-    → put_mid (start r) (size r) cells last ≡ written_of cells r i job
-unfolding written_of spot
-put_back_lem cells last r i at job s e l =
-    rw (l, s, set_mid_at (start r) (size r) at cells job (at_below cells r i at s e), e)
+  -- a job put there is written to the pool
+  pub put_back_lem : (last : List ℕ) (job : ℕ) → last ≡ set lent at job → put_mid s.start (s.end - s.start) cells last ≡ written_of cells r i job
+  unfolding written_of spot
+  put_back_lem last job w =
+      let h = has_stretch cells r s e in
+      rw (w, h.0, set_mid_at s.start (s.end - s.start) at cells job at_inside, h.1, p)

@@ -1,5 +1,6 @@
 -- The cells of a ring in the pool, which is one list.
-use Rattle.std.specs.Prelude.{Bool, ◌&&◌, List, ℕ, ◌+◌, ◌*◌, ◌/◌, ltb, length, get_or, set}
+use Rattle.std.specs.Prelude.{Bool, ◌&&◌, List, ℕ, ◌+◌, ◌*◌, ◌/◌, ltb, length, get_or, set, Option, Some, None}
+use Rattle.std.specs.declared.ops.Range.{Range}
 use Rattle.base.specs.Tests.{pick}
 use Rattle.index.specs.declared.Index.{Index}
 use Rattle.index.specs.Index.{cell_of}
@@ -13,6 +14,10 @@ place_cells = largest
 -- the pool has the ring's place, and a ring may have its capacity
 unfoldable pub stands_b : List ℕ → Ring → Bool
 stands_b cells r = ltb r.place.0 (length cells / place_cells) && allowed_b r.capacity
+
+-- the cells of a ring that the pool has: from its place's first on, as many as its capacity
+abbrev pub stretch_of : List ℕ → Ring → Option (Range ℕ)
+stretch_of cells r = pick (stands_b cells r) (Some (record { start = r.place.0 * place_cells; end = r.place.0 * place_cells + r.capacity })) None
 
 -- where in the pool index i of a ring lies
 unfoldable pub spot : Ring → Index → ℕ

@@ -1,11 +1,12 @@
 // The cells of a ring in the lent pool. A ring occupies the first cells of its place, and is worked on as that stretch of the pool alone.
 #![tactic(auto)]
 
-ghost use Rattle.std.specs.Prelude.{◌≡◌, ◌<◌, length, get_or, set};
-ghost use Rattle.cells.specs.Cells.{stands_b, read_of, written_of, copied_of};
+ghost use Rattle.std.specs.Prelude.{◌≡◌, ◌<◌, ◌≤◌, length, get_or, set, IfSome};
+ghost use Rattle.cells.specs.Cells.{stands_b, stretch_of, read_of, written_of, copied_of};
 
 use index::Index;
 use ring::Ring;
+use std::ops::Range;
 
 // The cells of a place: as many as the largest ring has.
 pub const PLACE_CELLS: usize = Ring::LARGEST;
@@ -35,18 +36,29 @@ fn put(stretch: &mut [u64], at: usize, job: u64)
     stretch[at] = job;
 }
 
+// Where the ring's cells lie in the pool, if it has them.
+#[tactic(auto, using(crate::proofs::StandLaws::standing))]
+fn stretch(pool: &[u64], ring: Ring) -> Option<Range<usize>>
+    ensures value { result ≡ stretch_of pool.now ring }
+    ensures within { IfSome result (λ r. (r.start ≤ r.end) × (r.end ≤ length pool.now)) }
+{
+    if !stands(pool, ring) {
+        return None;
+    }
+    let start = ring.place.0 * PLACE_CELLS;
+    Some(start..start + ring.capacity)
+}
+
 // The job in the cell of index i.
 #[tactic(auto, unfolding(crate::specs::Cells::read_of))]
 pub fn read(pool: &[u64], ring: Ring, i: Index) -> u64
     ensures { result ≡ read_of pool.now ring i }
 {
-    if !stands(pool, ring) {
+    let Some(cells) = stretch(pool, ring) else {
         return 0;
-    }
-    let start = ring.place.0 * PLACE_CELLS;
-    let end = start + ring.capacity;
+    };
     let at = i.cell(ring.capacity);
-    get(&pool[start..end], at)
+    get(&pool[cells.start..cells.end], at)
 }
 
 // A job is written to the cell of index i.
@@ -54,13 +66,9 @@ pub fn read(pool: &[u64], ring: Ring, i: Index) -> u64
 pub fn write(pool: &mut [u64], ring: Ring, i: Index, job: u64)
     ensures { pool.new ≡ written_of pool.old ring i job }
 {
-    if !stands(pool, ring) {
-        return;
+    if let Some(cells) = stretch(pool, ring) {
+        put(&mut pool[cells], i.cell(ring.capacity), job);
     }
-    let start = ring.place.0 * PLACE_CELLS;
-    let end = start + ring.capacity;
-    let at = i.cell(ring.capacity);
-    put(&mut pool[start..end], at, job);
 }
 
 // The cell of index i is copied from one ring to another.

@@ -10,7 +10,7 @@ use Rattle.machine.specs.State.{idle_thread}
 use Rattle.slots.specs.Queue.{queue_words, queue_of, same_queue_b}
 use Rattle.slots.specs.Slots.{same_stage_b}
 use Rattle.words.specs.Stage.{stage_words, stage_of}
-use Rattle.words.specs.Slices.{queue_in, stage_in, put_queue, put_four, put_stage, machine_size, queue_b, stage_b, machine_b}
+use Rattle.words.specs.Slices.{queue_in, stage_in, put_queue, put_stage, machine_size, queue_b, stage_b, machine_b}
 use Rattle.slots.proofs.Same.{same_queue, same_queue_self, same_stage, same_stage_self}
 use Rattle.export.specs.Words.{machine_in, machine_put, QueuesTold, ThreadsTold, Told}
 
@@ -46,9 +46,9 @@ module _ (l : List ℕ) (m : Machine) (hq : QueuesTold m.queues) (ht : ThreadsTo
   put_machine =
       and_both _ _
       (and_both _ _ (queue_told _ hq.1)
-      (and_both _ _ (queue_told _ hq.2) (and_both _ _ (queue_told _ hq.3) (queue_told _ hq.4))))
+      (and_both _ _ (queue_told _ hq.2) (and_both _ _ (queue_told _ hq.3) (and_both _ _ (queue_told _ hq.4) refl))))
       (and_both _ _ (stage_told _ ht.1)
-      (and_both _ _ (stage_told _ ht.2) (and_both _ _ (stage_told _ ht.3) (stage_told _ ht.4))))
+      (and_both _ _ (stage_told _ ht.2) (and_both _ _ (stage_told _ ht.3) (and_both _ _ (stage_told _ ht.4) refl))))
 
   put_read : m.queues ≡ row zero_queue 4 0 m.queues → m.threads ≡ row idle_thread 4 0 m.threads → machine_in put ≡ m
   unfolding machine_in machine_put
@@ -92,16 +92,12 @@ set_own (x ∷ l) (suc k) = ap (λ (t : List ℕ). x ∷ t) (set_own l k)
 
 own_queue : (l : List ℕ) (at : ℕ) → queue_b (queue_in l at) ≡ true → put_queue l at (queue_words (queue_of (queue_in l at))) ≡ l
 own_queue l at h =
-    let own : put_queue l at (queue_in l at) ≡ l =
-    rw (set_own l (at + 0), set_own l (at + 1), set_own l (at + 2), set_own l (at + 3), set_own l (at + 4), set_own l (at + 5)) in
+    let own : put_queue l at (queue_in l at) ≡ l = simp set_own refl in
     ap (put_queue l at) (sym (same_queue _ _ h)) ∙ own
-
-own_four : (l : List ℕ) (at k : ℕ) → put_four l at k (get_or l (at + k) 0 ∷ get_or l (at + (k + 1)) 0 ∷ get_or l (at + (k + 2)) 0 ∷ get_or l (at + (k + 3)) 0 ∷ []) ≡ l
-own_four l at k = rw (set_own l (at + k), set_own l (at + (k + 1)), set_own l (at + (k + 2)), set_own l (at + (k + 3)))
 
 own_stage : (l : List ℕ) (at : ℕ) → stage_b (stage_in l at) ≡ true → put_stage l at (stage_words (stage_of (stage_in l at))) ≡ l
 own_stage l at h =
-    let own : put_stage l at (stage_in l at) ≡ l = rw (own_four l at 0, own_four l at 4, own_four l at 8, own_four l at 12) in
+    let own : put_stage l at (stage_in l at) ≡ l = simp set_own refl in
     ap (put_stage l at) (sym (same_stage _ _ h)) ∙ own
 
 pub own_words : (l : List ℕ) → machine_b l ≡ true → machine_put l (machine_in l) ≡ l
@@ -111,9 +107,11 @@ own_words l h =
     let q1 = both _ _ p.0 in
     let q2 = both _ _ q1.1 in
     let q3 = both _ _ q2.1 in
+    let q4 = both _ _ q3.1 in
     let s1 = both _ _ p.1 in
     let s2 = both _ _ s1.1 in
     let s3 = both _ _ s2.1 in
+    let s4 = both _ _ s3.1 in
     rw (
       set_own l 0,
       set_own l 1,
@@ -121,9 +119,9 @@ own_words l h =
       own_queue l 3 q1.0,
       own_queue l 9 q2.0,
       own_queue l 15 q3.0,
-      own_queue l 21 q3.1,
+      own_queue l 21 q4.0,
       own_stage l 27 s1.0,
       own_stage l 43 s2.0,
       own_stage l 59 s3.0,
-      own_stage l 75 s3.1,
+      own_stage l 75 s4.0,
     )

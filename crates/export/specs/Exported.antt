@@ -1,5 +1,5 @@
 -- What the exported functions leave: the machine's words, the pool's cells, the answer's four words, a part's two.
-use Rattle.std.specs.Prelude.{◌≡◌, ℕ, true, List, [], ◌∷◌, length, ◌==◌}
+use Rattle.std.specs.Prelude.{◌≡◌, ℕ, true, List, [], ◌∷◌, length, ◌==◌, Result, Ok, Err}
 use Rattle.base.specs.Tests.{pick}
 use Rattle.parts.specs.declared.answer.Answer.TheVariants.{Refused}
 use Rattle.parts.specs.declared.answer.Refusal.TheVariants.{Unsound}
@@ -10,8 +10,8 @@ use Rattle.machine.specs.Setup.{setup_of}
 use Rattle.machine.specs.Call.{call_of}
 use Rattle.machine.specs.declared.shown.Part.{Part}
 use Rattle.machine.specs.Shown.{part, shown_part}
-use Rattle.kinds.specs.declared.KindRead.{KindRead}
-use Rattle.kinds.specs.declared.KindRead.TheVariants.{Kind, Wrong}
+use Rattle.kinds.specs.declared.Kind.{Kind}
+use Rattle.kinds.specs.declared.UnknownKind.{UnknownKind}
 use Rattle.kinds.specs.Kinds.{request_of}
 use Rattle.slots.specs.Queue.{flavors_of}
 use Rattle.slots.specs.Answer.{answer_words}
@@ -44,17 +44,17 @@ unfoldable pub asked_words : List ℕ → List ℕ → ℕ → Request → List 
 asked_words w cells t r = pick (machine_b w) (called_words w (call_of (machine_in w) cells t r)) (w, cells, unsound_words)
 
 -- a kind that is no call's changes nothing
-abbrev pub call_words : List ℕ → List ℕ → ℕ → KindRead → ℕ → ℕ → List ℕ × List ℕ × List ℕ
-call_words w cells t (Kind k) src n = asked_words w cells t (request_of t k src n)
-call_words w cells t Wrong src n = (w, cells, 11 ∷ 0 ∷ 0 ∷ 0 ∷ [])
+abbrev pub call_words : List ℕ → List ℕ → ℕ → Result Kind UnknownKind → ℕ → ℕ → List ℕ × List ℕ × List ℕ
+call_words w cells t (Ok k) src n = asked_words w cells t (request_of t k src n)
+call_words w cells t (Err e) src n = (w, cells, 11 ∷ 0 ∷ 0 ∷ 0 ∷ [])
 
 -- words of a machine are left as words of a machine: of the one that the call leaves
 abbrev pub AskedTold : List ℕ → List ℕ → ℕ → Request → List ℕ → Type 0
 AskedTold w cells t r after = machine_b w ≡ true → Told after (call_of (machine_in w) cells t r).called.machine
 
-abbrev pub CallTold : List ℕ → List ℕ → ℕ → KindRead → ℕ → ℕ → List ℕ → Type 0
-CallTold w cells t (Kind k) src n after = AskedTold w cells t (request_of t k src n) after
-CallTold w cells t Wrong src n after = Unit
+abbrev pub CallTold : List ℕ → List ℕ → ℕ → Result Kind UnknownKind → ℕ → ℕ → List ℕ → Type 0
+CallTold w cells t (Ok k) src n after = AskedTold w cells t (request_of t k src n) after
+CallTold w cells t (Err e) src n after = Unit
 
 -- a part of the pool: its first cell, and how many cells it has
 abbrev pub part_words : Part → List ℕ

@@ -9,7 +9,7 @@ ghost use Rattle.export.specs.Words.{Told};
 use crate::reading::machine_in;
 use crate::writing::store;
 use gate::Request;
-use kinds::{KindRead, kind_of, request_of};
+use kinds::{Kind, request_of};
 use machine::state::{Called, Machine};
 use parts::answer::{Answer, Refusal};
 use slots::answer::answer_words;
@@ -32,8 +32,7 @@ fn leave(machine: &mut [u64], called: Called) -> [u64; 4]
     ensures told { length machine.old ≡ machine_size → Told machine.new called.machine }
 {
     store(machine, called.machine);
-    let answer = called.answer;
-    answer_words(answer)
+    answer_words(called.answer)
 }
 
 #[tactic(auto, unfolding(crate::specs::Exported::setup_words))]
@@ -83,19 +82,15 @@ pub fn call(
     ensures answer_after { (machine.new, pool.new, answer.new) ≡ call_words machine.old pool.old thread (kind_of kind) source operand }
     ensures call_told { CallTold machine.old pool.old thread (kind_of kind) source operand machine.new }
 {
-    match kind_of(kind) {
-        KindRead::Kind(known) => {
-            *answer = ask(
-                machine,
-                pool,
-                thread,
-                request_of(thread, known, source, operand),
-            );
-        }
-        KindRead::Wrong => {
-            *answer = [NO_CALL, 0, 0, 0];
-        }
-    }
+    *answer = match Kind::try_from(kind) {
+        Ok(known) => ask(
+            machine,
+            pool,
+            thread,
+            request_of(thread, known, source, operand),
+        ),
+        Err(_) => [NO_CALL, 0, 0, 0],
+    };
 }
 
 // Where the queue's ring starts in a pool of so many cells, and how many cells it has. The cells themselves are not looked at.

@@ -1,30 +1,23 @@
 // The machine that words are read as; whatever they are, there is one.
 ghost use Rattle.std.specs.Prelude.{◌≡◌};
-ghost use Rattle.slots.specs.Queue.{queue_of};
-ghost use Rattle.words.specs.Slices.{queue_in};
 ghost use Rattle.export.specs.Words.{queues_in, thread_in, threads_in, machine_in};
 
 use machine::state::{Machine, Thread};
 use parts::queue::Queue;
+use parts::stage::Stage;
 use ring::RingNumber;
-use slots::queue::queue_of;
+use words::InWords;
 use words::slices::{queue_in, stage_in, word};
-use words::stage::stage_of;
 
-fn queue_at(words: &[u64], at: usize) -> Queue
-    ensures { result ≡ queue_of (queue_in words.now at) }
-{
-    queue_of(queue_in(words, at))
-}
-
+// By place, queues and threads: a map over the places was tried, and what its closure reads is not known from one item to the next.
 fn queues_in(words: &[u64]) -> [Queue; 4]
     ensures { result ≡ queues_in words.now }
 {
     [
-        queue_at(words, 3),
-        queue_at(words, 9),
-        queue_at(words, 15),
-        queue_at(words, 21),
+        Queue::from_words(queue_in(words, 3)),
+        Queue::from_words(queue_in(words, 9)),
+        Queue::from_words(queue_in(words, 15)),
+        Queue::from_words(queue_in(words, 21)),
     ]
 }
 
@@ -32,7 +25,7 @@ fn thread_in(words: &[u64], at: usize) -> Thread
     ensures { result ≡ thread_in words.now at }
 {
     Thread {
-        stage: stage_of(stage_in(words, at)),
+        stage: Stage::from_words(stage_in(words, at)),
     }
 }
 

@@ -1,12 +1,11 @@
 -- What an answer counts for is read from its words.
-use Rattle.std.proofs.Common.{◌≡◌, ℕ, Bool, true, false, eqb, refl}
+use Rattle.std.proofs.Common.{◌≡◌, ℕ, Bool, true, false, eqb, refl, Ok}
 use Rattle.base.specs.Tests.{pick}
 use Rattle.steal.specs.declared.Steal.TheVariants as T
 use Rattle.parts.specs.declared.answer.Answer.{Answer}
 use Rattle.parts.specs.declared.answer.Answer.TheVariants.{Working, Done, Job, Nothing, Stolen, Moved, Length, GaveUp, Refused}
 use Rattle.kinds.specs.declared.Kind.{Kind}
 use Rattle.kinds.specs.declared.Kind.TheVariants as K
-use Rattle.kinds.specs.declared.KindRead.TheVariants as R
 use Rattle.kinds.specs.Kinds.{request_of}
 use Rattle.slots.specs.Answer.{answer_words}
 use Rattle.theorem.specs.History.{Lent, asks, accepted_by, answered_by, begun_by, jobs_after}
@@ -57,9 +56,9 @@ either_way true x = refl
 either_way false x = refl
 
 pub jobs_are : (jobs : ℕ → ℕ) (l : Lent) (t src n : ℕ) (k : Kind) (a : Answer)
-    → pick (eqb (answer_kind (answer_words a)) 0) (wished_as (R.Kind k) jobs t n) jobs ≡ jobs_after jobs (asks l t (request_of t k src n)) a
+    → pick (eqb (answer_kind (answer_words a)) 0) (wished_as (Ok k) jobs t n) jobs ≡ jobs_after jobs (asks l t (request_of t k src n)) a
 jobs_are jobs l t src n K.Step a = either_way (eqb (answer_kind (answer_words a)) 0) jobs
-jobs_are jobs l t src n K.Push a = begun_is a (wished_as (R.Kind K.Push) jobs t n) jobs
+jobs_are jobs l t src n K.Push a = begun_is a (wished_as (Ok K.Push) jobs t n) jobs
 jobs_are jobs l t src n K.Pop a = begun_is a jobs jobs
 jobs_are jobs l t src n K.OwnLength a = begun_is a jobs jobs
 jobs_are jobs l t src n K.Length a = begun_is a jobs jobs

@@ -1,16 +1,15 @@
 -- A row of exported calls is a session: its words are those of the session's machine, its pool is the session's, and it counts what the session's
 -- history counts. So demand 3 holds of it.
-use Rattle.std.proofs.Common.{◌≡◌, ℕ, suc, ◌+◌, ◌^◌, ◌<◌, ◌≤◌, Bool, true, eqb, List, [], ◌∷◌, length, get_or, sym, refl, ap, ◌∙◌, subst, arith, eq-eqb}
+use Rattle.std.proofs.Common.{◌≡◌, ℕ, suc, ◌+◌, ◌^◌, ◌<◌, ◌≤◌, Bool, true, eqb, List, [], ◌∷◌, length, get_or, sym, refl, ap, ◌∙◌, subst, arith, eq-eqb, Result, Ok, Err}
 use Rattle.base.specs.Tests.{pick}
 use Rattle.parts.specs.declared.queue.Flavor.{Flavor}
 use Rattle.parts.specs.declared.answer.Answer.{Answer}
 use Rattle.parts.specs.declared.answer.Answer.TheVariants.{Done}
-use Rattle.gate.specs.declared.Gate.{Gate}
-use Rattle.gate.specs.declared.Gate.TheVariants.{Open, Shut}
+use Rattle.parts.specs.declared.answer.Refusal.{Refusal}
 use Rattle.gate.specs.declared.Request.{Request}
 use Rattle.gate.specs.Gate.{setup_tests}
-use Rattle.kinds.specs.declared.KindRead.{KindRead}
-use Rattle.kinds.specs.declared.KindRead.TheVariants.{Kind, Wrong}
+use Rattle.kinds.specs.declared.Kind.{Kind}
+use Rattle.kinds.specs.declared.UnknownKind.{UnknownKind}
 use Rattle.kinds.specs.Kinds.{kind_of, request_of}
 use Rattle.machine.specs.declared.state.Machine.{Machine}
 use Rattle.machine.specs.State.{After}
@@ -52,16 +51,16 @@ none_more n = omega arith
 
 module _ (w cells : List ℕ) (m : Machine) (is : Told w m) (e : Entry) (es : List Entry)
     (rest : (w' cells' : List ℕ) (m' : Machine) → Told w' m' → Row w' cells' es → IsRun w' cells' m' es) where
-  abbrev With : KindRead → Type 0
+  abbrev With : Result Kind UnknownKind → Type 0
   With r =
       Tells (words_at e.words es) (pool_at (pool_after e.lends cells e.cells) es)
       (λ jobs j. accepted_as (jobs e.thread) e.answer j + accepted_in (jobs_in jobs e r) es j)
       (λ j. answered_as e.answer j + answered_in es j)
       (run m cells (asked e r (calls_in es)))
 
-  one_more : (r : KindRead) → Promised w cells e r → Row e.words (pool_after e.lends cells e.cells) es → With r
+  one_more : (r : Result Kind UnknownKind) → Promised w cells e r → Row e.words (pool_after e.lends cells e.cells) es → With r
   unfolding run_by called_of accepted_from answered
-  one_more (Kind k) p row =
+  one_more (Ok k) p row =
       let t = e.thread in
       let r : Request = request_of t k e.source e.operand in
       let a : After = call_of m (lent e.lends cells) t r in
@@ -76,7 +75,7 @@ module _ (w cells : List ℕ) (m : Machine) (is : Told w m) (e : Entry) (es : Li
         machine = ih.machine;
         same_pool = ap (λ (x : List ℕ). pool_at (pool_after e.lends cells x) es) cs ∙ ih.same_pool;
         same_accepted = λ jobs j.
-            ap (λ (x : List ℕ). accepted_as (jobs t) x j + accepted_in (pick (eqb (answer_kind x) 0) (wished_as (Kind k) jobs t e.operand) jobs) es j) an
+            ap (λ (x : List ℕ). accepted_as (jobs t) x j + accepted_in (pick (eqb (answer_kind x) 0) (wished_as (Ok k) jobs t e.operand) jobs) es j) an
             ∙ (λ i. accepted_is (jobs t) a.called.answer j i
             + accepted_in (jobs_are jobs e.lends t e.source e.operand k a.called.answer i) es j)
             ∙ ap (λ (x : ℕ). accepted_by (jobs t) a.called.answer j + x) (ih.same_accepted (jobs_after jobs (asks e.lends t r) a.called.answer) j);
@@ -85,7 +84,7 @@ module _ (w cells : List ℕ) (m : Machine) (is : Told w m) (e : Entry) (es : Li
             ∙ ap (λ (x : ℕ). x + answered_in es j) (answered_is a.called.answer j)
             ∙ ap (λ (x : ℕ). answered_by a.called.answer j + x) (ih.same_answered j);
       }
-  one_more Wrong p row =
+  one_more (Err x) p row =
       let ws : e.words ≡ w = ap (λ x. x.0) p.0 in
       let an = ap (λ x. x.2) p.0 in
       let back : pool_after e.lends cells e.cells ≡ cells = ap (λ x. pool_after e.lends cells x.1) p.0 ∙ lent_back e.lends cells in
@@ -107,9 +106,9 @@ row_is w cells m is (e ∷ es) row = one_more w cells m is e es (λ w' cells' m'
 
 -- ---- how many a row's calls are
 
-asked_length : (e : Entry) (r : KindRead) (cs : List Call) (n : ℕ) → length cs ≤ n → length (asked e r cs) ≤ suc n
-asked_length e (Kind k) cs n h = omega arith
-asked_length e Wrong cs n h = omega arith
+asked_length : (e : Entry) (r : Result Kind UnknownKind) (cs : List Call) (n : ℕ) → length cs ≤ n → length (asked e r cs) ≤ suc n
+asked_length e (Ok k) cs n h = omega arith
+asked_length e (Err x) cs n h = omega arith
 
 pub calls_length : (es : List Entry) → length (calls_in es) ≤ length es
 unfolding calls_in
@@ -119,10 +118,10 @@ calls_length (e ∷ es) = asked_length e (kind_of e.kind) (calls_in es) (length 
 -- ---- the theorem
 
 -- a setup answers Done, or is refused
-set_up_is : (g : Gate) (k : ℕ) (flavors : List Flavor) (n : ℕ) (cells : List ℕ)
+set_up_is : (g : Result Unit Refusal) (k : ℕ) (flavors : List Flavor) (n : ℕ) (cells : List ℕ)
     → answer_words (setting_up g k flavors n cells).called.answer ≡ answer_words Done → (setting_up g k flavors n cells).called.answer ≡ Done
-set_up_is Open k flavors n cells e = refl
-set_up_is (Shut r) k flavors n cells e = absurd (let kinds : 10 ≡ 1 = ap (λ (x : List ℕ). get_or x 0 0) e in omega arith)
+set_up_is (Ok x) k flavors n cells e = refl
+set_up_is (Err r) k flavors n cells e = absurd (let kinds : 10 ≡ 1 = ap (λ (x : List ℕ). get_or x 0 0) e in omega arith)
 
 done_is : (w cells : List ℕ) (k bits n : ℕ) → length w ≡ machine_size → (setup_words w cells k bits n).1 ≡ answer_words Done
     → (setup_of k (flavors_of bits) n cells).called.answer ≡ Done

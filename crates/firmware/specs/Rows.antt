@@ -1,11 +1,11 @@
 -- A row of exported calls, as firmware makes them after a setup: with any arguments, each on the machine's words that the last one left, and lent the
 -- pool as it is then or some other list. Of a call nothing is known but what `hub_queues_call` promises. Counts are made from the numbers that cross the
 -- interface alone.
-use Rattle.std.specs.Prelude.{◌≡◌, ℕ, ◌+◌, ◌||◌, List, [], ◌∷◌, ◌==◌, slice_index}
+use Rattle.std.specs.Prelude.{◌≡◌, ℕ, ◌+◌, ◌||◌, List, [], ◌∷◌, ◌==◌, slice_index, Result, Ok, Err}
 use Rattle.base.specs.Tests.{pick}
+use Rattle.kinds.specs.declared.Kind.{Kind}
 use Rattle.kinds.specs.declared.Kind.TheVariants.{Step, Push, Pop, OwnLength, Length, Steal, Batch, BatchAndPop}
-use Rattle.kinds.specs.declared.KindRead.{KindRead}
-use Rattle.kinds.specs.declared.KindRead.TheVariants.{Kind, Wrong}
+use Rattle.kinds.specs.declared.UnknownKind.{UnknownKind}
 use Rattle.kinds.specs.Kinds.{kind_of, request_of}
 use Rattle.model.specs.Count.{one, upd}
 use Rattle.theorem.specs.History.{Lent, Call, asks, lent, pool_after}
@@ -25,7 +25,7 @@ pub record Entry : Type 0 where
   pub answer : List ℕ
 
 -- made on these words while the pool is this; r: the kind that its number is read as
-abbrev pub Promised : List ℕ → List ℕ → Entry → KindRead → Type 0
+abbrev pub Promised : List ℕ → List ℕ → Entry → Result Kind UnknownKind → Type 0
 Promised w pool e r =
     ((e.words, e.cells, e.answer) ≡ call_words w (lent e.lends pool) e.thread r e.source e.operand)
     × CallTold w (lent e.lends pool) e.thread r e.source e.operand e.words
@@ -45,9 +45,9 @@ pool_at pool (e ∷ es) = pool_at (pool_after e.lends pool e.cells) es
 
 -- ---- the session's calls: kinds that are no call's ask for nothing
 
-abbrev pub asked : Entry → KindRead → List Call → List Call
-asked e (Kind k) cs = asks e.lends e.thread (request_of e.thread k e.source e.operand) ∷ cs
-asked e Wrong cs = cs
+abbrev pub asked : Entry → Result Kind UnknownKind → List Call → List Call
+asked e (Ok k) cs = asks e.lends e.thread (request_of e.thread k e.source e.operand) ∷ cs
+asked e (Err x) cs = cs
 
 unfoldable pub calls_in : List Entry → List Call
 calls_in [] = []
@@ -70,18 +70,18 @@ abbrev pub answered_as : List ℕ → ℕ → ℕ
 answered_as a j = pick (answer_kind a == 2 || answer_kind a == 5) (one (answer_value a) j) 0
 
 -- what each thread last began to push, after a call of thread t that was not refused
-abbrev pub wished_as : KindRead → (ℕ → ℕ) → ℕ → ℕ → ℕ → ℕ
-wished_as (Kind Step) jobs t n = jobs
-wished_as (Kind Push) jobs t n = upd jobs t n
-wished_as (Kind Pop) jobs t n = jobs
-wished_as (Kind OwnLength) jobs t n = jobs
-wished_as (Kind Length) jobs t n = jobs
-wished_as (Kind Steal) jobs t n = jobs
-wished_as (Kind Batch) jobs t n = jobs
-wished_as (Kind BatchAndPop) jobs t n = jobs
-wished_as Wrong jobs t n = jobs
+abbrev pub wished_as : Result Kind UnknownKind → (ℕ → ℕ) → ℕ → ℕ → ℕ → ℕ
+wished_as (Ok Step) jobs t n = jobs
+wished_as (Ok Push) jobs t n = upd jobs t n
+wished_as (Ok Pop) jobs t n = jobs
+wished_as (Ok OwnLength) jobs t n = jobs
+wished_as (Ok Length) jobs t n = jobs
+wished_as (Ok Steal) jobs t n = jobs
+wished_as (Ok Batch) jobs t n = jobs
+wished_as (Ok BatchAndPop) jobs t n = jobs
+wished_as (Err x) jobs t n = jobs
 
-abbrev pub jobs_in : (ℕ → ℕ) → Entry → KindRead → ℕ → ℕ
+abbrev pub jobs_in : (ℕ → ℕ) → Entry → Result Kind UnknownKind → ℕ → ℕ
 jobs_in jobs e r = pick (answer_kind e.answer == 0) (wished_as r jobs e.thread e.operand) jobs
 
 unfoldable pub accepted_in : (ℕ → ℕ) → List Entry → ℕ → ℕ

@@ -4,8 +4,6 @@
 ghost use Rattle.std.specs.Prelude.{◌≡◌};
 ghost use Rattle.gate.specs.Gate.{own_queue};
 
-use parts::answer::Refusal;
-
 pub mod tests;
 
 // What a thread can begin. The owner's operations work on the thread's own queue; the others name a queue.
@@ -24,13 +22,6 @@ pub enum Operation {
 pub enum Request {
     Step,
     Begin(Operation),
-}
-
-// What the tests before a call find.
-#[derive(Clone, Copy)]
-pub enum Gate {
-    Open,
-    Shut(Refusal),
 }
 
 // Thread t owns queue t.

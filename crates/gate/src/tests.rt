@@ -1,9 +1,9 @@
 // The tests, in 01's order: setup 2, 1; begin 3, 1, 4 (thread, then source), 5, 7; step 3, 1, 4, 6.
 ghost use Rattle.std.specs.Prelude.{◌≡◌, ◌*◌, ◌==◌};
 ghost use Rattle.cells.specs.Cells.{place_cells};
-ghost use Rattle.gate.specs.Gate.{setup_tests, call_tests, names_b, limit_b, begin_tests, step_tests, then_gate};
+ghost use Rattle.gate.specs.Gate.{setup_tests, call_tests, names_b, limit_b, begin_tests, step_tests};
 
-use crate::{Gate, Operation};
+use crate::Operation;
 use cells::PLACE_CELLS;
 use parts::answer::Refusal;
 use sound::counts_in_range;
@@ -18,32 +18,38 @@ pub fn is_pool(places: usize, length: usize) -> bool
     length / PLACE_CELLS == places
 }
 
-pub fn setup_tests(queues: usize, places: usize, length: usize) -> Gate
+pub fn setup_tests(queues: usize, places: usize, length: usize) -> Result<(), Refusal>
     ensures { result ≡ setup_tests queues places length }
 {
     if !counts_in_range(queues, places) {
-        return Gate::Shut(Refusal::Counts);
+        return Err(Refusal::Counts);
     }
     if !is_pool(places, length) {
-        return Gate::Shut(Refusal::PoolLength);
+        return Err(Refusal::PoolLength);
     }
-    Gate::Open
+    Ok(())
 }
 
 // What begin and step share: 3, 1, and 4 for the thread.
-pub fn call_tests(sound: bool, places: usize, length: usize, queues: usize, thread: usize) -> Gate
+pub fn call_tests(
+    sound: bool,
+    places: usize,
+    length: usize,
+    queues: usize,
+    thread: usize,
+) -> Result<(), Refusal>
     ensures { result ≡ call_tests sound places length queues thread }
 {
     if !sound {
-        return Gate::Shut(Refusal::Unsound);
+        return Err(Refusal::Unsound);
     }
     if !is_pool(places, length) {
-        return Gate::Shut(Refusal::PoolLength);
+        return Err(Refusal::PoolLength);
     }
     if thread < queues {
-        return Gate::Open;
+        return Ok(());
     }
-    Gate::Shut(Refusal::NoSuch)
+    Err(Refusal::NoSuch)
 }
 
 // The queue that the operation names exists.
@@ -51,12 +57,11 @@ fn names(queues: usize, operation: Operation) -> bool
     ensures { result ≡ names_b queues operation }
 {
     match operation {
-        Operation::Push(_) => true,
-        Operation::Pop => true,
-        Operation::Length(queue) => queue < queues,
-        Operation::Steal(source) => source < queues,
-        Operation::Batch { source, limit: _ } => source < queues,
-        Operation::BatchAndPop { source, limit: _ } => source < queues,
+        Operation::Push(_) | Operation::Pop => true,
+        Operation::Length(source)
+        | Operation::Steal(source)
+        | Operation::Batch { source, .. }
+        | Operation::BatchAndPop { source, .. } => source < queues,
     }
 }
 
@@ -64,48 +69,34 @@ fn names(queues: usize, operation: Operation) -> bool
 fn has_limit(operation: Operation) -> bool
     ensures { result ≡ limit_b operation }
 {
-    match operation {
-        Operation::Push(_) => true,
-        Operation::Pop => true,
-        Operation::Length(_) => true,
-        Operation::Steal(_) => true,
-        Operation::Batch { source: _, limit } => limit != 0,
-        Operation::BatchAndPop { source: _, limit } => limit != 0,
-    }
+    !matches!(
+        operation,
+        Operation::Batch { limit: 0, .. } | Operation::BatchAndPop { limit: 0, .. }
+    )
 }
 
 // Of a begin then: 4 for the source, 5, 7.
-pub fn begin_tests(queues: usize, idle: bool, operation: Operation) -> Gate
+pub fn begin_tests(queues: usize, idle: bool, operation: Operation) -> Result<(), Refusal>
     ensures { result ≡ begin_tests queues idle operation }
 {
     if !names(queues, operation) {
-        return Gate::Shut(Refusal::NoSuch);
+        return Err(Refusal::NoSuch);
     }
     if !idle {
-        return Gate::Shut(Refusal::Busy);
+        return Err(Refusal::Busy);
     }
     if !has_limit(operation) {
-        return Gate::Shut(Refusal::NoLimit);
+        return Err(Refusal::NoLimit);
     }
-    Gate::Open
+    Ok(())
 }
 
 // Of a step then: 6.
-pub fn step_tests(idle: bool) -> Gate
+pub fn step_tests(idle: bool) -> Result<(), Refusal>
     ensures { result ≡ step_tests idle }
 {
     if idle {
-        return Gate::Shut(Refusal::Idle);
+        return Err(Refusal::Idle);
     }
-    Gate::Open
-}
-
-// The second tests, where the first found nothing.
-pub fn then_gate(first: Gate, second: Gate) -> Gate
-    ensures { result ≡ then_gate first second }
-{
-    match first {
-        Gate::Open => second,
-        Gate::Shut(refusal) => Gate::Shut(refusal),
-    }
+    Ok(())
 }

@@ -5,9 +5,9 @@ ghost use Rattle.std.specs.Prelude.{◌≡◌, ◌^◌};
 ghost use Rattle.std.specs.Int.Signed.{mag as magZ};
 ghost use Rattle.std.specs.Int.{w64};
 ghost use Rattle.std.proofs.Common.{to_z};
-ghost use Rattle.index.specs.Index.{mod_z, plus_of, minus_of, difference_of, length_of, behind_b, empty_b, full_b, spans_b, same_b, cell_of};
+ghost use Rattle.index.specs.Index.{mod_z, plus_of, minus_of, difference_of, length_of, behind_b, empty_b, full_b, spans_b, cell_of};
 
-#[derive(Clone, Copy)]
+#[derive(Clone, Copy, PartialEq, Eq)]
 pub struct Index(pub i64);
 
 // The number itself where it is not below zero, and otherwise how far it lies below -1.
@@ -21,18 +21,14 @@ pub fn mag(a: i64) -> u64
 pub fn bits(a: i64) -> u64
     ensures { result ≡ mod_z a (2 ^ 64) }
 {
-    if a >= 0 { mag(a) } else { u64::MAX - mag(a) }
+    a.cast_unsigned()
 }
 
 // The number with these two's complement bits.
 pub fn signed(u: u64) -> i64
     ensures { result ≡ to_z w64 u }
 {
-    if u < 0x8000_0000_0000_0000 {
-        u as i64
-    } else {
-        -1 - ((u64::MAX - u) as i64)
-    }
+    u.cast_signed()
 }
 
 impl Index {
@@ -41,7 +37,7 @@ impl Index {
     pub fn plus(self, n: u64) -> Index
         ensures { result ≡ plus_of self n }
     {
-        Index(signed(std::num::wrapping_add_u64(bits(self.0), n)))
+        Index(self.0.wrapping_add_unsigned(n))
     }
 
     // The index n before.
@@ -49,7 +45,7 @@ impl Index {
     pub fn minus(self, n: u64) -> Index
         ensures { result ≡ minus_of self n }
     {
-        Index(signed(std::num::wrapping_sub_u64(bits(self.0), n)))
+        Index(self.0.wrapping_sub_unsigned(n))
     }
 
     // This index as back, minus front. Below zero is an answer.
@@ -57,7 +53,7 @@ impl Index {
     pub fn difference(self, front: Index) -> i64
         ensures { result ≡ difference_of self front }
     {
-        signed(std::num::wrapping_sub_u64(bits(self.0), bits(front.0)))
+        self.0.wrapping_sub(front.0)
     }
 
     // The difference, and 0 where that is below zero.
@@ -65,8 +61,7 @@ impl Index {
     pub fn length(self, front: Index) -> u64
         ensures { result ≡ length_of self front }
     {
-        let d = self.difference(front);
-        if d >= 0 { mag(d) } else { 0 }
+        self.difference(front).max(0) as u64
     }
 
     // The difference is below 0.
@@ -109,13 +104,6 @@ impl Index {
         -1 <= d
     }
 
-    #[tactic(auto, unfolding(crate::specs::Index::same_b))]
-    pub fn is_same(self, other: Index) -> bool
-        ensures { result ≡ same_b self other }
-    {
-        self.0 == other.0
-    }
-
     // The cell of a ring in which the index lies: by a mask where the capacity has exactly one bit set, as every allowed one has; no capacity
     // is turned away.
     #[tactic(auto, unfolding(crate::specs::Index::cell_of))]
@@ -125,7 +113,7 @@ impl Index {
         if capacity == 0 {
             return 0;
         }
-        if usize::count_ones(capacity) == 1 {
+        if capacity.is_power_of_two() {
             return (bits(self.0) as usize) & (capacity - 1);
         }
         let part = mag(self.0) as usize % capacity;

@@ -9,7 +9,8 @@ use parts::stage::{
 };
 use ring::Ring;
 
-// A ring that is being built, from the claim to the swap, or one that is held, from its load until the answer.
+// A ring that is being built, from the claim to the swap, or one that is held, from its load until the answer. Soundness asks the same of both, places do
+// not, so nothing, built and held stand side by side.
 #[derive(Clone, Copy)]
 pub enum Kept {
     Nothing,
@@ -21,9 +22,9 @@ fn resize_keeps(at: ResizeStage) -> Kept
     ensures { result ≡ resize_keeps at }
 {
     match at {
-        ResizeStage::LoadBack { capacity: _ } => Kept::Nothing,
-        ResizeStage::LoadFront { capacity: _, b: _ } => Kept::Nothing,
-        ResizeStage::Copy { b: _, i: _, ring } => Kept::Built(ring),
+        ResizeStage::LoadBack { .. } => Kept::Nothing,
+        ResizeStage::LoadFront { .. } => Kept::Nothing,
+        ResizeStage::Copy { ring, .. } => Kept::Built(ring),
         ResizeStage::Swap { ring } => Kept::Built(ring),
     }
 }
@@ -33,10 +34,10 @@ fn push_keeps(at: PushStage) -> Kept
 {
     match at {
         PushStage::LoadBack => Kept::Nothing,
-        PushStage::LoadFront { b: _ } => Kept::Nothing,
-        PushStage::Resize { b: _, at } => resize_keeps(at),
-        PushStage::Write { b: _ } => Kept::Nothing,
-        PushStage::StoreBack { b: _ } => Kept::Nothing,
+        PushStage::LoadFront { .. } => Kept::Nothing,
+        PushStage::Resize { at, .. } => resize_keeps(at),
+        PushStage::Write { .. } => Kept::Nothing,
+        PushStage::StoreBack { .. } => Kept::Nothing,
     }
 }
 
@@ -46,7 +47,7 @@ fn pop_keeps(at: PopStage) -> Kept
     match at {
         PopStage::Fifo(_) => Kept::Nothing,
         PopStage::Lifo(_) => Kept::Nothing,
-        PopStage::Shrink { job: _, at } => resize_keeps(at),
+        PopStage::Shrink { at, .. } => resize_keeps(at),
     }
 }
 
@@ -55,32 +56,27 @@ fn steal_keeps(at: StealStage) -> Kept
 {
     match at {
         StealStage::LoadFront => Kept::Nothing,
-        StealStage::LoadBack { f: _ } => Kept::Nothing,
-        StealStage::LoadRing { f: _ } => Kept::Nothing,
-        StealStage::Read { f: _, ring } => Kept::Held(ring),
-        StealStage::ReloadRing { f: _, ring, job: _ } => Kept::Held(ring),
-        StealStage::Exchange { f: _, ring, job: _ } => Kept::Held(ring),
+        StealStage::LoadBack { .. } => Kept::Nothing,
+        StealStage::LoadRing { .. } => Kept::Nothing,
+        StealStage::Read { ring, .. } => Kept::Held(ring),
+        StealStage::ReloadRing { ring, .. } => Kept::Held(ring),
+        StealStage::Exchange { ring, .. } => Kept::Held(ring),
     }
 }
 
 fn held(haul: Haul) -> Kept
     ensures { result ≡ Kept.Held haul.ring }
 {
-    let ring = haul.ring;
-    Kept::Held(ring)
+    Kept::Held(haul.ring)
 }
 
 fn source_keeps(at: SourceStage) -> Kept
     ensures { result ≡ source_keeps at }
 {
     match at {
-        SourceStage::LoadFront { kind: _, others: _ } => Kept::Nothing,
-        SourceStage::LoadBack {
-            kind: _,
-            others: _,
-            f: _,
-        } => Kept::Nothing,
-        SourceStage::LoadRing { wanted: _, b: _ } => Kept::Nothing,
+        SourceStage::LoadFront { .. } => Kept::Nothing,
+        SourceStage::LoadBack { .. } => Kept::Nothing,
+        SourceStage::LoadRing { .. } => Kept::Nothing,
         SourceStage::Take(haul, _) => held(haul),
     }
 }
@@ -90,7 +86,7 @@ fn reserve_keeps(at: ReserveStage) -> Kept
 {
     match at {
         ReserveStage::LoadBack => Kept::Nothing,
-        ReserveStage::LoadFront { b: _ } => Kept::Nothing,
+        ReserveStage::LoadFront { .. } => Kept::Nothing,
         ReserveStage::Resize(stage) => resize_keeps(stage),
     }
 }
@@ -100,7 +96,7 @@ fn own_keeps(at: OwnStage) -> Kept
 {
     match at {
         OwnStage::Reserve(_, stage) => reserve_keeps(stage),
-        OwnStage::LoadBack { wanted: _ } => Kept::Nothing,
+        OwnStage::LoadBack { .. } => Kept::Nothing,
         OwnStage::Put(haul, _) => held(haul),
     }
 }

@@ -1,5 +1,5 @@
 -- The kinds of calls, by their numbers, and what a call of a kind asks for.
-use Rattle.std.specs.Prelude.{ℕ, Bool, true, false, eqb}
+use Rattle.std.specs.Prelude.{ℕ, Bool, true, false, eqb, Result, Ok, Err}
 use Rattle.base.specs.Tests.{pick}
 use Rattle.gate.specs.Gate.{own_queue}
 use Rattle.gate.specs.declared.Operation.TheVariants as O
@@ -7,18 +7,17 @@ use Rattle.gate.specs.declared.Request.{Request}
 use Rattle.gate.specs.declared.Request.TheVariants as R
 use Rattle.kinds.specs.declared.Kind.{Kind}
 use Rattle.kinds.specs.declared.Kind.TheVariants.{Step, Push, Pop, OwnLength, Length, Steal, Batch, BatchAndPop}
-use Rattle.kinds.specs.declared.KindRead.{KindRead}
-use Rattle.kinds.specs.declared.KindRead.TheVariants as K
+use Rattle.kinds.specs.declared.UnknownKind.{UnknownKind}
 
 -- the kinds, 0 to 7
-unfoldable pub kind_of : ℕ → KindRead
+unfoldable pub kind_of : ℕ → Result Kind UnknownKind
 kind_of n =
-    pick (eqb n 0) (K.Kind Step)
-    (pick (eqb n 1) (K.Kind Push)
-    (pick (eqb n 2) (K.Kind Pop)
-    (pick (eqb n 3) (K.Kind OwnLength)
-    (pick (eqb n 4) (K.Kind Length)
-    (pick (eqb n 5) (K.Kind Steal) (pick (eqb n 6) (K.Kind Batch) (pick (eqb n 7) (K.Kind BatchAndPop) K.Wrong)))))))
+    pick (eqb n 0) (Ok Step)
+    (pick (eqb n 1) (Ok Push)
+    (pick (eqb n 2) (Ok Pop)
+    (pick (eqb n 3) (Ok OwnLength)
+    (pick (eqb n 4) (Ok Length)
+    (pick (eqb n 5) (Ok Steal) (pick (eqb n 6) (Ok Batch) (pick (eqb n 7) (Ok BatchAndPop) (Err (record { 0 = n })))))))))
 
 -- the kind names a source queue; has an operand
 abbrev pub source_b : Kind → Bool

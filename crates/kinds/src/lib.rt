@@ -6,7 +6,6 @@ ghost use Rattle.kinds.specs.Kinds.{kind_of, source_b, operand_b, request_of};
 
 use gate::{Operation, Request, own_queue};
 
-// 0 to 7.
 #[derive(Clone, Copy)]
 pub enum Kind {
     Step,
@@ -19,61 +18,46 @@ pub enum Kind {
     BatchAndPop,
 }
 
+// A number that is no kind's.
 #[derive(Clone, Copy)]
-pub enum KindRead {
-    Kind(Kind),
-    Wrong,
-}
+pub struct UnknownKind(pub u64);
 
-#[tactic(auto, unfolding(crate::specs::Kinds::kind_of))]
-pub fn kind_of(number: u64) -> KindRead
-    ensures { result ≡ kind_of number }
-{
-    if number == 0 {
-        return KindRead::Kind(Kind::Step);
+impl TryFrom<u64> for Kind {
+    type Error = UnknownKind;
+
+    ghost try_from_gives = { λ number result. result ≡ kind_of number };
+
+    #[tactic(auto, unfolding(crate::specs::Kinds::kind_of))]
+    fn try_from(number: u64) -> Result<Kind, UnknownKind> {
+        match number {
+            0 => Ok(Kind::Step),
+            1 => Ok(Kind::Push),
+            2 => Ok(Kind::Pop),
+            3 => Ok(Kind::OwnLength),
+            4 => Ok(Kind::Length),
+            5 => Ok(Kind::Steal),
+            6 => Ok(Kind::Batch),
+            7 => Ok(Kind::BatchAndPop),
+            _ => Err(UnknownKind(number)),
+        }
     }
-    if number == 1 {
-        return KindRead::Kind(Kind::Push);
-    }
-    if number == 2 {
-        return KindRead::Kind(Kind::Pop);
-    }
-    if number == 3 {
-        return KindRead::Kind(Kind::OwnLength);
-    }
-    if number == 4 {
-        return KindRead::Kind(Kind::Length);
-    }
-    if number == 5 {
-        return KindRead::Kind(Kind::Steal);
-    }
-    if number == 6 {
-        return KindRead::Kind(Kind::Batch);
-    }
-    if number == 7 {
-        return KindRead::Kind(Kind::BatchAndPop);
-    }
-    KindRead::Wrong
 }
 
 // The kind names a source queue.
 pub fn has_source(kind: Kind) -> bool
     ensures { result ≡ source_b kind }
 {
-    match kind {
-        Kind::Length | Kind::Steal | Kind::Batch | Kind::BatchAndPop => true,
-        _ => false,
-    }
+    matches!(
+        kind,
+        Kind::Length | Kind::Steal | Kind::Batch | Kind::BatchAndPop
+    )
 }
 
 // The kind has an operand: a job or a limit.
 pub fn has_operand(kind: Kind) -> bool
     ensures { result ≡ operand_b kind }
 {
-    match kind {
-        Kind::Push | Kind::Batch | Kind::BatchAndPop => true,
-        _ => false,
-    }
+    matches!(kind, Kind::Push | Kind::Batch | Kind::BatchAndPop)
 }
 
 pub fn request_of(thread: usize, kind: Kind, source: usize, operand: u64) -> Request

@@ -1,6 +1,8 @@
 -- No line is longer than `longest_line`: a number has at most 20 digits, and a signed one its sign besides.
-use Rattle.std.proofs.Common.{ℕ, ◌≤◌, ltb, List, [], length, arith, length-append}
+use Rattle.std.proofs.Common.{◌≡◌, ℕ, ◌≤◌, ltb, List, [], length, arith, length-append, length-take, length-drop}
 use Rattle.base.specs.Tests.{by_test}
+use Rattle.writing.specs.declared.Page.{Page}
+use Rattle.writing.specs.Writing.{whole_on}
 use Rattle.writing.proofs.WritingLaws.{decimal_short, signed_short}
 use Rattle.steal.specs.declared.Steal.{Steal}
 use Rattle.steal.specs.declared.Steal.TheVariants.{Empty, Success, Retry}
@@ -10,7 +12,7 @@ use Rattle.parts.specs.declared.answer.Answer.{Answer}
 use Rattle.parts.specs.declared.answer.Answer.TheVariants.{Working, Done, Job, Nothing, Stolen, Moved, Length, GaveUp, Refused}
 use Rattle.parts.specs.Answers.{refusal_of, shortage_of}
 use Rattle.parts.specs.Queues.{queue_in}
-use Rattle.line.specs.Line.{stolen_text, answer_text, queue_text, queue_text_if, call_text, setup_text, bad_text, longest_line}
+use Rattle.line.specs.Line.{stolen_text, answer_text, queue_text, queue_text_if, call_text, setup_text, bad_text, longest_line, Room}
 
 stolen_short : (s : Steal) → length (stolen_text s) ≤ 25
 stolen_short Empty = omega arith
@@ -50,3 +52,7 @@ setup_short a = simp length-append (omega (arith, answer_short a))
 
 pub bad_short : (place : ℕ) → length (bad_text place) ≤ longest_line
 bad_short place = simp length-append (omega (arith, decimal_short place))
+
+-- a page that had room for a line, with a text on it, is still as long as a line
+pub still_long : (p q : Page) (text : List ℕ) → Room p → q ≡ whole_on p text → longest_line ≤ length q.bytes.now
+still_long p q text h e = rw (e, length-append, length-append, length-take, length-drop) (omega arith)

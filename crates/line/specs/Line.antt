@@ -1,6 +1,7 @@
 -- The lines that a session prints: a call's answer and, after a tab for each queue, front, back, ring, place and capacity.
 use Rattle.std.specs.Prelude.{ℕ, ◌+◌, ◌≤◌, List, [], ◌++◌, length, nat_lt}
 use Rattle.base.specs.Tests.{pick}
+use Rattle.writing.specs.declared.Page.{Page}
 use Rattle.writing.specs.Writing.{ascii, decimal, signed}
 use Rattle.steal.specs.declared.Steal.{Steal}
 use Rattle.steal.specs.declared.Steal.TheVariants.{Empty, Success, Retry}
@@ -56,6 +57,6 @@ bad_text n = (ascii "bad input at byte " ++ decimal n) ++ ascii "\n"
 abbrev pub longest_line : ℕ
 longest_line = 478
 
--- from this place on a page has room for a line
-abbrev pub Room : List ℕ → ℕ → Type 0
-Room p at = at + longest_line ≤ length p
+-- from its place on a page has room for a line
+abbrev pub Room : Page → Type 0
+Room p = p.at + longest_line ≤ length p.bytes.now

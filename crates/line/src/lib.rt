@@ -1,127 +1,115 @@
 // The lines that a session prints: a call's answer and, after a tab for each queue, front, back, ring, place and capacity.
-#![tactic(auto)]
+// They are put, not displayed: what Display promises is of Ok alone, and these promise the page also where it cuts a line off.
+#![tactic(auto, using(writing::proofs::WritingLaws::put_then, writing::proofs::WritingLaws::put_none))]
 
 ghost use Rattle.std.specs.Prelude.{◌≡◌, ◌++◌};
 ghost use Rattle.parts.specs.declared.answer.Answer.TheVariants.{Length};
-ghost use Rattle.writing.specs.Writing.{page as page_of, put, signed, decimal};
+ghost use Rattle.writing.specs.Writing.{put_on, decimal};
 ghost use Rattle.line.specs.Line.{stolen_text, answer_text, ring_text, queue_text, queue_text_if, call_text, setup_text, bad_text};
 
-use index::Index;
 use parts::answer::Answer;
 use parts::queue::{Queue, queue_of};
 use ring::Ring;
 use steal::Steal;
-use writing::{put_number, put_signed, put_text};
+use writing::Page;
 
 // No line is longer.
 pub const LONGEST_LINE: usize = 478;
 
-fn put_told(page: &mut [u8], at: usize, text: &[u8], n: u64) -> usize
-    ensures { page_of page.new result ≡ put page.old at (text.now ++ decimal n) }
+fn put_told(page: &mut Page, text: &[u8], n: u64)
+    ensures { page.new ≡ put_on page.old (text.now ++ decimal n) }
 {
-    let next = put_text(page, at, text);
-    put_number(page, next, n)
+    page.put_text(text);
+    page.put_number(n);
 }
 
-fn put_stolen(page: &mut [u8], at: usize, stolen: Steal) -> usize
-    ensures { page_of page.new result ≡ put page.old at (stolen_text stolen) }
+fn put_stolen(page: &mut Page, stolen: Steal)
+    ensures { page.new ≡ put_on page.old (stolen_text stolen) }
 {
     match stolen {
-        Steal::Empty => put_text(page, at, b"empty"),
-        Steal::Success(job) => put_told(page, at, b"took ", job),
-        Steal::Retry => put_text(page, at, b"retry"),
+        Steal::Empty => page.put_text(b"empty"),
+        Steal::Success(job) => put_told(page, b"took ", job),
+        Steal::Retry => page.put_text(b"retry"),
     }
 }
 
-fn put_length(page: &mut [u8], at: usize, difference: i64, length: u64) -> usize
-    ensures { page_of page.new result ≡ put page.old at (answer_text (Length difference length)) }
+fn put_length(page: &mut Page, difference: i64, length: u64)
+    ensures { page.new ≡ put_on page.old (answer_text (Length difference length)) }
 {
-    let next = put_text(page, at, b"length ");
-    let then = put_signed(page, next, difference);
-    put_told(page, then, b" ", length)
+    page.put_text(b"length ");
+    page.put_signed(difference);
+    put_told(page, b" ", length);
 }
 
-fn put_answer(page: &mut [u8], at: usize, answer: Answer) -> usize
-    ensures { page_of page.new result ≡ put page.old at (answer_text answer) }
+fn put_answer(page: &mut Page, answer: Answer)
+    ensures { page.new ≡ put_on page.old (answer_text answer) }
 {
     match answer {
-        Answer::Working => put_text(page, at, b"working"),
-        Answer::Done => put_text(page, at, b"done"),
-        Answer::Job(job) => put_told(page, at, b"job ", job),
-        Answer::Nothing => put_text(page, at, b"nothing"),
-        Answer::Stolen(stolen) => put_stolen(page, at, stolen),
-        Answer::Moved => put_text(page, at, b"moved"),
-        Answer::Length { difference, length } => put_length(page, at, difference, length),
-        Answer::GaveUp(shortage) => put_told(page, at, b"gave-up ", shortage.number()),
-        Answer::Refused(refusal) => put_told(page, at, b"refused ", refusal.number()),
+        Answer::Working => page.put_text(b"working"),
+        Answer::Done => page.put_text(b"done"),
+        Answer::Job(job) => put_told(page, b"job ", job),
+        Answer::Nothing => page.put_text(b"nothing"),
+        Answer::Stolen(stolen) => put_stolen(page, stolen),
+        Answer::Moved => page.put_text(b"moved"),
+        Answer::Length { difference, length } => put_length(page, difference, length),
+        Answer::GaveUp(shortage) => put_told(page, b"gave-up ", shortage.number()),
+        Answer::Refused(refusal) => put_told(page, b"refused ", refusal.number()),
     }
 }
 
-fn put_index(page: &mut [u8], at: usize, index: Index) -> usize
-    ensures { page_of page.new result ≡ put page.old at (signed index.0) }
+fn put_ring(page: &mut Page, ring: Ring)
+    ensures { page.new ≡ put_on page.old (ring_text ring) }
 {
-    put_signed(page, at, index.0)
+    put_told(page, b" ", ring.number.0);
+    put_told(page, b" ", ring.place.0 as u64);
+    put_told(page, b" ", ring.capacity as u64);
 }
 
-fn put_ring(page: &mut [u8], at: usize, ring: Ring) -> usize
-    ensures { page_of page.new result ≡ put page.old at (ring_text ring) }
+fn put_queue(page: &mut Page, q: Queue)
+    ensures { page.new ≡ put_on page.old (queue_text q) }
 {
-    let a = put_told(page, at, b" ", ring.number.0);
-    let b = put_told(page, a, b" ", ring.place.0 as u64);
-    put_told(page, b, b" ", ring.capacity as u64)
-}
-
-fn put_queue(page: &mut [u8], at: usize, q: Queue) -> usize
-    ensures { page_of page.new result ≡ put page.old at (queue_text q) }
-{
-    let a = put_text(page, at, b"\t");
-    let b = put_index(page, a, q.front);
-    let c = put_text(page, b, b" ");
-    let d = put_index(page, c, q.back);
-    put_ring(page, d, q.ring)
+    page.put_text(b"\t");
+    page.put_signed(q.front.0);
+    page.put_text(b" ");
+    page.put_signed(q.back.0);
+    put_ring(page, q.ring);
 }
 
 // Queue k of so many.
-fn put_queue_if(page: &mut [u8], at: usize, count: usize, queues: [Queue; 4], k: usize) -> usize
-    ensures { page_of page.new result ≡ put page.old at (queue_text_if count queues k) }
+fn put_queue_if(page: &mut Page, count: usize, queues: [Queue; 4], k: usize)
+    ensures { page.new ≡ put_on page.old (queue_text_if count queues k) }
 {
     if k < count {
-        return put_queue(page, at, queue_of(queues, k));
+        put_queue(page, queue_of(queues, k));
     }
-    at
 }
 
-// A call's line: of the queues so many.
-pub fn put_call(
-    page: &mut [u8],
-    at: usize,
-    count: usize,
-    queues: [Queue; 4],
-    answer: Answer,
-) -> usize
-    ensures { page_of page.new result ≡ put page.old at (call_text count queues answer) }
+// A call's line: of the queues so many. Four at most are shown, whatever the count, which is what keeps a line short (`call_short`): a slice of them
+// would have to be cut to four again.
+pub fn put_call(page: &mut Page, count: usize, queues: [Queue; 4], answer: Answer)
+    ensures { page.new ≡ put_on page.old (call_text count queues answer) }
 {
-    let a = put_answer(page, at, answer);
-    let b = put_queue_if(page, a, count, queues, 0);
-    let c = put_queue_if(page, b, count, queues, 1);
-    let d = put_queue_if(page, c, count, queues, 2);
-    let e = put_queue_if(page, d, count, queues, 3);
-    put_text(page, e, b"\n")
+    put_answer(page, answer);
+    put_queue_if(page, count, queues, 0);
+    put_queue_if(page, count, queues, 1);
+    put_queue_if(page, count, queues, 2);
+    put_queue_if(page, count, queues, 3);
+    page.put_text(b"\n");
 }
 
 // A refused setup's line.
-pub fn put_setup(page: &mut [u8], at: usize, answer: Answer) -> usize
-    ensures { page_of page.new result ≡ put page.old at (setup_text answer) }
+pub fn put_setup(page: &mut Page, answer: Answer)
+    ensures { page.new ≡ put_on page.old (setup_text answer) }
 {
-    let a = put_text(page, at, b"setup ");
-    let b = put_answer(page, a, answer);
-    put_text(page, b, b"\n")
+    page.put_text(b"setup ");
+    put_answer(page, answer);
+    page.put_text(b"\n");
 }
 
 // The line for what is no session.
-pub fn put_bad(page: &mut [u8], at: usize, place: u64) -> usize
-    ensures { page_of page.new result ≡ put page.old at (bad_text place) }
+pub fn put_bad(page: &mut Page, place: u64)
+    ensures { page.new ≡ put_on page.old (bad_text place) }
 {
-    let a = put_told(page, at, b"bad input at byte ", place);
-    put_text(page, a, b"\n")
+    put_told(page, b"bad input at byte ", place);
+    page.put_text(b"\n");
 }

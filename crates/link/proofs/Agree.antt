@@ -1,7 +1,6 @@
 -- The tables agree at every stage of a linked state: one line an operation.
 use Rattle.std.proofs.Common.{◌≡◌, ℕ, suc, ◌^◌, ◌<◌, ◌≤◌, T, List, refl, arith}
 use Rattle.ring.specs.declared.Ring.{Ring}
-use Rattle.parts.specs.declared.out.Claim.{Claim as CodeClaim}
 use Rattle.machine.specs.declared.state.Machine.{Machine}
 use Rattle.model.specs.Stage.{Flavour, at, ResizeStage, resize_back, resize_front, resize_copy, resize_swap, PushStage, push_back, push_front}
 use Rattle.model.specs.Stage.{push_resize, push_write, push_store, own, source, OwnStage, reserve_back, reserve_front, reserve_resize, own_back}
@@ -23,6 +22,7 @@ use Rattle.link.proofs.AgreeSteal.{HeldRing, steal_agree, length_agree, own_batc
 use Rattle.link.proofs.AgreeSource.{source_agree}
 use Rattle.link.proofs.AgreeOwn.{OwnNames, own_agree}
 use Rattle.link.proofs.LinkedLaws.{held_ring, fits}
+use Rattle.parts.specs.Out.{Claim as CodeClaim}
 
 module _ (n : ℕ) (fl : ℕ → Flavour) (R : ℕ → ℕ → Ring) (s : State) (m : Machine) (cells : List ℕ) (w : Linked n fl R s m cells) (mem : ℕ → ℕ)
     (v : Inv n fl mem s) (c : ℕ)

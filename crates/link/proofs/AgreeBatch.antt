@@ -7,7 +7,8 @@ use Rattle.parts.specs.declared.stage.SourceStage.TheVariants.{Take}
 use Rattle.parts.specs.declared.stage.OwnStage.TheVariants.{Put}
 use Rattle.parts.specs.declared.stage.Stage.TheVariants.{BatchSource, BatchOwn}
 use Rattle.op_batch.specs.Haul as H
-use Rattle.advance.specs.Advance.{of_batch}
+use Rattle.parts.specs.Out.{out_of}
+use Rattle.advance.specs.Advance.{batch_at}
 use Rattle.model.specs.Stage.{Flavour, fifo, lifo, Queue, InHand, none, some, Haul}
 use Rattle.model.specs.Tables.{with_count, in_hand, copy_next, swap_next, landing, stopped, turning}
 use Rattle.link.specs.Map.{ix, flavor_of, hand_for, haul_for, stage_for, queue_for, out_for}
@@ -30,15 +31,15 @@ module _ (R : ℕ → ℕ → Ring) (k : ℕ) (new : Ring) where
   -- the queue that the step touched is j, of flavour fl
   module _ (j : ℕ) (fo fl : Flavour) where
     pub stop_agree : (h : Haul) (i : ℕ) (q : Queue)
-        → of_batch k (H.stopped (flavor_of fo) (haul_for (R k) h) i (queue_for fl (R j) q)) ≡ out_for fl R j new (stopped fo k h i q)
+        → out_of (batch_at k) (H.stopped (flavor_of fo) (haul_for (R k) h) i (queue_for fl (R j) q)) ≡ out_for fl R j new (stopped fo k h i q)
     stop_agree h i q = go h.hand
       where
-        go : (a : InHand) → of_batch k (H.stopped (flavor_of fo) (haul_for (R k) (with_hand h a)) i (queue_for fl (R j) q)) ≡ out_for fl R j new (stopped fo k (with_hand h a) i q)
+        go : (a : InHand) → out_of (batch_at k) (H.stopped (flavor_of fo) (haul_for (R k) (with_hand h a)) i (queue_for fl (R j) q)) ≡ out_for fl R j new (stopped fo k (with_hand h a) i q)
         go none = either (eqb i 0) (λ t. rw t) (λ t. rw (t, landing_agree fo (with_count (with_hand h none) i)))
         go (some v) = rw (landing_agree fo (with_count (with_hand h (some v)) i))
 
     pub turn_agree : (h : Haul) (i : ℕ) (q : Queue)
-        → of_batch k (H.turning (flavor_of fo) (haul_for (R k) h) i (queue_for fl (R j) q)) ≡ out_for fl R j new (turning fo k h i q)
+        → out_of (batch_at k) (H.turning (flavor_of fo) (haul_for (R k) h) i (queue_for fl (R j) q)) ≡ out_for fl R j new (turning fo k h i q)
     turn_agree h i q = either (leb h.n i) (λ t. rw (t, stop_agree h i q)) (λ t. rw t)
 
 -- the first of the n jobs

@@ -7,10 +7,9 @@ use Rattle.index.proofs.Laws.{plus_is, minus_is, length_is}
 use Rattle.ring.specs.declared.Ring.{Ring}
 use Rattle.ring.specs.Capacity.{largest}
 use Rattle.ring.proofs.CapacityLaws.{holding_least, holding_over}
-use Rattle.parts.specs.declared.out.Claim.{Claim as CodeClaim}
 use Rattle.op_resize.specs.Resize.{resizing, resize_of}
 use Rattle.op_batch.specs.Haul as H
-use Rattle.advance.specs.Advance.{of_batch}
+use Rattle.advance.specs.Advance.{batch_at}
 use Rattle.model.specs.Stage.{Flavour, fifo, lifo, Queue, cap, set_cell, ResizeStage, own, Wanted, InHand, none, some, Haul, OwnStage, reserve_back}
 use Rattle.model.specs.Stage.{reserve_front, reserve_resize, own_back, all_write, one_write, swap_near, swap_far, swap_put, swap_last, own_store}
 use Rattle.model.specs.Stage.{no_ring, Out, going, ended}
@@ -20,6 +19,7 @@ use Rattle.model.specs.Memory.{note_resize}
 use Rattle.link.specs.Map.{ix, flavor_of, haul_for, resize_at, queue_for, out_for, noted, offer_for}
 use Rattle.link.proofs.AgreeResize.{either, Fits, Agrees, resized_for, ResizeNames, resize_agree}
 use Rattle.link.proofs.AgreeBatch.{copy_agree, swap_agree, turn_agree}
+use Rattle.parts.specs.Out.{Claim as CodeClaim, out_of}
 
 abbrev pub OwnNames : (ℕ → Ring) → Ring → Claim → CodeClaim → OwnStage → Queue → Type 0
 OwnNames R new gm gc (reserve_back w) q = Unit
@@ -68,7 +68,7 @@ module _ (fl : Flavour) (R : ℕ → ℕ → Ring) (k t : ℕ) (new : Ring) (q :
 
     -- the own queue t is touched, and the haul is from k
     turn_own : (h : Haul) (i : ℕ) (r : Queue)
-        → of_batch k (H.turning (flavor_of fl) (haul_for (R k) h) i (queue_for fl (R t) r)) ≡ out_for fl R t new (turning fl k h i r)
+        → out_of (batch_at k) (H.turning (flavor_of fl) (haul_for (R k) h) i (queue_for fl (R t) r)) ≡ out_for fl R t new (turning fl k h i r)
     turn_own h i r = turn_agree R k new t fl fl h i r
 
     pub own_agree : (p : OwnStage) → Ok fl (own k p) q → OwnNames (R t) new gm gc p q → Same p (own_step (offer_for gm (own k p) q) fl k p q)

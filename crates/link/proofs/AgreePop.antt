@@ -5,7 +5,6 @@ use Rattle.index.specs.Index.{minus_of, empty_b}
 use Rattle.index.proofs.Laws.{minus_is, empty_is, behind_is, same_is, length_is}
 use Rattle.ring.specs.declared.Ring.{Ring}
 use Rattle.ring.specs.Capacity.{smallest}
-use Rattle.parts.specs.declared.out.Claim.{Claim as CodeClaim}
 use Rattle.op_resize.specs.Resize.{resizing, resize_of}
 use Rattle.model.specs.Stage.{Flavour, Queue, cap, ResizeStage, FifoPopStage, fifo_back, fifo_front, fifo_add, fifo_restore, fifo_read, LifoPopStage}
 use Rattle.model.specs.Stage.{lifo_back, lifo_front, lifo_store, lifo_reload, lifo_restore, lifo_last, lifo_exchange, job, lifo_won, lifo_read}
@@ -15,6 +14,7 @@ use Rattle.model.specs.Invariant.{Ok}
 use Rattle.model.specs.Memory.{note_resize}
 use Rattle.link.specs.Map.{ix, resize_at, queue_for, noted, offer_for}
 use Rattle.link.proofs.AgreeResize.{either, next_ix, Fits, Agrees, resized_for, ResizeNames, resize_agree}
+use Rattle.parts.specs.Out.{Claim as CodeClaim}
 
 module _ (fl : Flavour) (R : ℕ → ℕ → Ring) (k : ℕ) (new : Ring) (q : Queue) (cells : List ℕ) (w : Fits (R k) q cells) (gm : Claim) (gc : CodeClaim)
   where

@@ -5,7 +5,6 @@ use Rattle.index.proofs.Laws.{full_is}
 use Rattle.ring.specs.declared.Ring.{Ring}
 use Rattle.ring.specs.Capacity.{largest}
 use Rattle.ring.proofs.CapacityLaws.{twice_below, twice_above}
-use Rattle.parts.specs.declared.out.Claim.{Claim as CodeClaim}
 use Rattle.op_resize.specs.Resize.{resizing, resize_of}
 use Rattle.model.specs.Stage.{Flavour, Queue, cap, ResizeStage, PushStage, push_back, push_front, push_resize, push_write, push_store, Stage, push}
 use Rattle.model.specs.Stage.{no_ring, Out, going, ended}
@@ -14,6 +13,7 @@ use Rattle.model.specs.Invariant.{Ok}
 use Rattle.model.specs.Memory.{note_resize}
 use Rattle.link.specs.Map.{resize_at, queue_for, noted, offer_for}
 use Rattle.link.proofs.AgreeResize.{either, next_ix, Fits, Agrees, resized_for, ResizeNames, resize_agree}
+use Rattle.parts.specs.Out.{Claim as CodeClaim}
 
 abbrev pub PushNames : (ℕ → Ring) → Ring → Claim → CodeClaim → PushStage → Queue → Type 0
 PushNames R new gm gc push_back q = Unit

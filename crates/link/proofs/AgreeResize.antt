@@ -1,16 +1,14 @@
 -- The tables agree: a step of the code's tables at a state of the model is the model's step. Here what every operation's agreement needs, and the
 -- resize.
-use Rattle.std.proofs.Common.{◌≡◌, ℕ, suc, ◌+◌, ◌^◌, ◌<◌, ◌≤◌, Bool, true, false, eqb, List, refl, ap, ◌∙◌, arith}
+use Rattle.std.proofs.Common.{◌≡◌, ℕ, suc, ◌+◌, ◌^◌, ◌<◌, ◌≤◌, Bool, true, false, eqb, List, refl, ap, ◌∙◌, arith, Some, None}
 use Rattle.index.specs.Index.{plus_of}
 use Rattle.index.proofs.Laws.{plus_is, same_is}
 use Rattle.ring.specs.declared.Ring.{Ring}
 use Rattle.cells.specs.Cells.{read_of}
-use Rattle.parts.specs.declared.out.Claim.{Claim as CodeClaim}
-use Rattle.parts.specs.declared.out.Claim.TheVariants as J
 use Rattle.parts.specs.declared.out.Resized.{Resized as CodeResized}
 use Rattle.parts.specs.declared.out.Resized.TheVariants as M
 use Rattle.op_resize.specs.Resize.{resizing, resize_of}
-use Rattle.parts.specs.Out.{left}
+use Rattle.parts.specs.Out.{Claim as CodeClaim, left}
 use Rattle.advance.specs.Advance.{advance_of}
 use Rattle.model.specs.Stage.{Flavour, Queue, at, cap, ResizeStage, resize_back, resize_front, resize_copy, resize_swap, Stage, Out}
 use Rattle.model.specs.Tables.{Claim, lost, got, Resized, more, failed, finished, resize_step}
@@ -62,10 +60,10 @@ module _ (fl : Flavour) (R : ℕ → Ring) (new : Ring) (q : Queue) (cells : Lis
       → resize_of (resize_at new z) (queue_for fl R q) gc cells ≡ resizing (resized_for fl R new (resize_step gm z q)) (noted (note_resize gm z) (R q.ring) new cells)
   unfolding resize_step
   resize_agree need gm gc (resize_back c) o h = refl
-  resize_agree need lost J.Nothing (resize_front c b) o h = refl
-  resize_agree need lost (J.Got number place) (resize_front c b) o h = absurd h
-  resize_agree need (got f) J.Nothing (resize_front c b) o h = absurd h
-  resize_agree need (got f) (J.Got number place) (resize_front c b) o h =
+  resize_agree need lost None (resize_front c b) o h = refl
+  resize_agree need lost (Some r) (resize_front c b) o h = absurd h
+  resize_agree need (got f) None (resize_front c b) o h = absurd h
+  resize_agree need (got f) (Some r) (resize_front c b) o h =
       either (eqb q.front b) (λ e. rw (h, same_is q.front b, e)) (λ e. rw (h, same_is q.front b, e))
   resize_agree need gm gc (resize_copy c b i f) o h =
       let s = w.back in

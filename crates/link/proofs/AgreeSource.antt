@@ -4,7 +4,6 @@ use Rattle.index.specs.Index.{plus_of, same_b}
 use Rattle.index.proofs.Laws.{empty_is, same_is, length_is}
 use Rattle.ring.specs.declared.Ring.{Ring}
 use Rattle.cells.specs.Cells.{read_of}
-use Rattle.parts.specs.declared.out.Claim.{Claim as CodeClaim}
 use Rattle.op_batch.specs.Haul as H
 use Rattle.model.specs.Stage.{Flavour, fifo, lifo, Queue, cell, set_front, BatchKind, plain, and_pop, InHand, none, some, Haul, source, SourceStage}
 use Rattle.model.specs.Stage.{source_front, source_back, source_ring, source_first, all_copy, all_reload, all_exchange, one_first, one_back, one_read}
@@ -19,6 +18,7 @@ use Rattle.link.specs.Map.{ix, kind_of}
 use Rattle.link.proofs.AgreeResize.{either, next_ix, Fits, Agrees}
 use Rattle.link.proofs.AgreeSteal.{HeldRing}
 use Rattle.link.proofs.AgreeBatch.{copy_agree, stop_agree, turn_agree, first_ix}
+use Rattle.parts.specs.Out.{Claim as CodeClaim}
 
 wanted_agree : (m : BatchKind) (d others : ℕ) → H.wanted_of (kind_of m) d others ≡ wanted m d others
 wanted_agree plain d others = refl

@@ -3,7 +3,6 @@ use Rattle.std.proofs.Common.{◌≡◌, ℕ, suc, ◌^◌, ◌≤◌, eqb, leb,
 use Rattle.index.proofs.Laws.{empty_is, same_is}
 use Rattle.ring.specs.declared.Ring.{Ring}
 use Rattle.cells.specs.Cells.{read_of}
-use Rattle.parts.specs.declared.out.Claim.{Claim as CodeClaim}
 use Rattle.model.specs.Stage.{Flavour, Queue, cell, StealStage, steal_front, steal_back, steal_ring, steal_read, steal_reload, steal_exchange}
 use Rattle.model.specs.Stage.{LengthStage, length_back, length_front, Stage, steal, len, own_batch, Out}
 use Rattle.model.specs.Tables.{Claim, steal_step, length_step, own_batch_step}
@@ -14,6 +13,7 @@ use Rattle.model.specs.Memory.{StealHolds}
 use Rattle.model.proofs.Stable.{span_hi}
 use Rattle.link.specs.Map.{ix}
 use Rattle.link.proofs.AgreeResize.{either, next_ix, Fits, Agrees}
+use Rattle.parts.specs.Out.{Claim as CodeClaim}
 
 -- what is known of a ring of the touched queue that the thread holds: its cells, and its number against the current one's
 pub record HeldRing (R : ℕ → Ring) (q : Queue) (cells : List ℕ) (r : ℕ) : Type 0 where

@@ -1,11 +1,9 @@
 -- A resize goes to an allowed capacity, and the ring that is built has it.
-use Rattle.std.proofs.Common.{◌≡◌, ℕ, suc, ◌+◌, ◌-◌, ◌*◌, ◌/◌, ◌<◌, ◌≤◌, Bool, true, false, ◌&&◌, T, eqb, ltb, leb, sym, refl, ap, ⊎_elim, arith, ltb-true}
+use Rattle.std.proofs.Common.{◌≡◌, ℕ, suc, ◌+◌, ◌-◌, ◌*◌, ◌/◌, ◌<◌, ◌≤◌, Bool, true, false, ◌&&◌, T, eqb, ltb, leb, sym, refl, ap, ⊎_elim, arith, ltb-true, Some, None}
 use Rattle.base.specs.Tests.{pick, by_test, tests, le_or_lt}
 use Rattle.ring.specs.declared.Ring.{Ring}
 use Rattle.ring.specs.Capacity.{smallest, largest, allowed_b, twice_of, holding_of}
 use Rattle.ring.proofs.CapacityLaws.{twice_below, twice_above, twice_allowed, half_allowed, holding_least, holding_over, holding_allowed}
-use Rattle.parts.specs.declared.out.Claim.{Claim as CodeClaim}
-use Rattle.parts.specs.declared.out.Claim.TheVariants as J
 use Rattle.model.specs.Stage.{Flavour, fifo, lifo, Queue, cell, at, cap, set_front, set_cell, ResizeStage, resize_back, resize_front, resize_copy}
 use Rattle.model.specs.Stage.{resize_swap, PushStage, push_back, push_front, push_resize, push_write, push_store, FifoPopStage, fifo_back, fifo_front}
 use Rattle.model.specs.Stage.{fifo_add, fifo_restore, fifo_read, LifoPopStage, lifo_back, lifo_front, lifo_store, lifo_reload, lifo_restore}
@@ -24,6 +22,7 @@ use Rattle.model.proofs.Pops.{both_of}
 use Rattle.model.proofs.Batch.{by_swap, by_stopped, by_turning, by_copy}
 use Rattle.link.specs.Map.{size_of, offer_for, ClaimIs, ResizeClaims, PushClaims, OwnClaims, StageClaims}
 use Rattle.link.specs.Linked.{ResizeFits, PushFits, OwnFits, StageFits}
+use Rattle.parts.specs.Out.{Claim as CodeClaim}
 
 -- q: the own queue; new: the ring that a claim made in this step gets; gm: what that claim finds
 module _ (new : Ring) (q : Queue) (ca : allowed_b (cap q) ≡ true) (gm : Claim) (gc : CodeClaim) where
@@ -39,8 +38,8 @@ module _ (new : Ring) (q : Queue) (ca : allowed_b (cap q) ≡ true) (gm : Claim)
     where
       go : (g : Claim) (k : CodeClaim) → ClaimIs new c g k → Fine (claimed g c b q.front)
       go lost k e = tt
-      go (got f) J.Nothing e = absurd e
-      go (got f) (J.Got number place) e =
+      go (got f) None e = absurd e
+      go (got f) (Some r) e =
           let z : new.capacity ≡ c = ap (λ (r : Ring). r.capacity) (sym e) in by_test Fine (eqb q.front b) _ _ (λ t. z) (λ t. z)
   resize_fine (resize_copy c b i f) h e = by_test Fine (eqb (suc i) b) _ _ (λ t. h) (λ t. h)
   resize_fine (resize_swap c f) h e = tt

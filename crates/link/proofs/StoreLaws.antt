@@ -1,13 +1,11 @@
 -- What a store into the machine does, once for every step: thread t's step left o of queue k.
-use Rattle.std.proofs.Common.{◌≡◌, ℕ, ◌+◌, ◌%◌, ◌^◌, ◌<◌, ◌≤◌, true, leb, List, length, get_or, set, refl, ap, ◌∙◌, arith, length-set, get_or-set_other, get_or-set_same, leb-true}
+use Rattle.std.proofs.Common.{◌≡◌, ℕ, ◌+◌, ◌%◌, ◌^◌, ◌<◌, ◌≤◌, true, leb, List, length, get_or, set, refl, ap, ◌∙◌, arith, length-set, get_or-set_other, get_or-set_same, leb-true, Some, None}
 use native.Mathlib.Decide.{ℕ_discrete}
 use Rattle.base.specs.Tests.{both}
 use Rattle.ring.specs.declared.Ring.{Ring}
 use Rattle.ring.specs.declared.RingNumber.{RingNumber}
 use Rattle.parts.specs.declared.queue.Queue.{Queue as CodeQueue}
 use Rattle.parts.specs.declared.stage.Stage.{Stage as CodeStage}
-use Rattle.parts.specs.declared.out.Claim.{Claim as CodeClaim}
-use Rattle.parts.specs.declared.out.Claim.TheVariants as J
 use Rattle.sound.specs.Sound.{most_queues, counts_b, ring_sound}
 use Rattle.machine.specs.declared.state.Thread.{Thread}
 use Rattle.machine.specs.declared.state.Machine.{Machine}
@@ -20,6 +18,7 @@ use Rattle.model.specs.Memory.{Named, Keeps}
 use Rattle.model.proofs.CountLaws.{upd_same, upd_other}
 use Rattle.link.specs.Map.{stage_for, queue_for}
 use Rattle.link.specs.Linked.{pool_of, places_of, StageFits, Linked}
+use Rattle.parts.specs.Out.{Claim as CodeClaim}
 
 -- the machine with queue k, thread t's stage and the next ring number
 abbrev pub put_back : Machine → ℕ → ℕ → RingNumber → CodeQueue → CodeStage → Machine
@@ -32,13 +31,13 @@ put_back m t k next q x = record {
 }
 
 abbrev pub next_after : Machine → CodeClaim → RingNumber
-next_after m J.Nothing = m.next_ring
-next_after m (J.Got number place) = record { 0 = (number.0 + 1) % 2 ^ 64 }
+next_after m None = m.next_ring
+next_after m (Some r) = record { 0 = (r.number.0 + 1) % 2 ^ 64 }
 
 pub put_back_lem : (m : Machine) (t k : ℕ) (g : CodeClaim) (q : CodeQueue) (x : CodeStage)
     → with_stage (with_queue (counted m g) k q) t x ≡ put_back m t k (next_after m g) q x
-put_back_lem m t k J.Nothing q x = refl
-put_back_lem m t k (J.Got number place) q x = refl
+put_back_lem m t k None q x = refl
+put_back_lem m t k (Some r) q x = refl
 
 pub few_queues : (n p : ℕ) → counts_b n p ≡ true → n ≤ most_queues
 few_queues n p h = leb-true n most_queues (both (leb n most_queues) _ (both (leb 1 n) _ h).1).0

@@ -1,16 +1,13 @@
 -- The machine's step, from a linked state within the invariant: it is the model's step, with the model's answer, and leaves a linked state.
-use Rattle.std.proofs.Common.{◌≡◌, ℕ, suc, ◌+◌, ◌-◌, ◌*◌, ◌%◌, ◌^◌, ◌<◌, ◌≤◌, Bool, true, false, not, T, ltb, List, length, sym, refl, ap, ◌∙◌, subst, inl, inr, mod-eq_of_lt, arith, get_or-set_other, get_or-set_same, ltb-true, lt-ltb, eq-eqb}
+use Rattle.std.proofs.Common.{◌≡◌, ℕ, suc, ◌+◌, ◌-◌, ◌*◌, ◌%◌, ◌^◌, ◌<◌, ◌≤◌, Bool, true, false, not, T, ltb, List, length, sym, refl, ap, ◌∙◌, subst, inl, inr, mod-eq_of_lt, arith, get_or-set_other, get_or-set_same, ltb-true, lt-ltb, eq-eqb, Ok as CodeOk, Some, None}
 use native.Mathlib.Decide.{ℕ_discrete}
 use Rattle.base.specs.Tests.{and_both}
 use Rattle.ring.specs.declared.Ring.{Ring}
 use Rattle.ring.specs.Capacity.{allowed_b}
 use Rattle.cells.specs.Cells.{place_cells}
-use Rattle.parts.specs.declared.out.Claim.{Claim as CodeClaim}
-use Rattle.parts.specs.declared.out.Claim.TheVariants as J
-use Rattle.parts.specs.Out.{left}
+use Rattle.parts.specs.Out.{Claim as CodeClaim, left}
 use Rattle.stages.specs.Stages.{touched_of, idle_b, claims_b}
 use Rattle.advance.specs.Advance.{advance_of}
-use Rattle.gate.specs.declared.Gate.TheVariants.{Open}
 use Rattle.machine.specs.declared.state.Machine.{Machine}
 use Rattle.parts.specs.Queues.{zero_queue}
 use Rattle.machine.specs.State.{after, queue_at}
@@ -69,7 +66,7 @@ idle_is R new (own k p) = refl
 
 -- a stage's step claims no ring; or it claims one of an allowed capacity, and builds none yet
 data ClaimAt (x : Stage) : Type 0 where
-  no_claim : ((R : ℕ → ℕ → Ring) (new : Ring) → claims_b (stage_for R new x) ≡ false) → ((new : Ring) → StageClaims new lost J.Nothing x) → ClaimAt x
+  no_claim : ((R : ℕ → ℕ → Ring) (new : Ring) → claims_b (stage_for R new x) ≡ false) → ((new : Ring) → StageClaims new lost None x) → ClaimAt x
   a_claim : (c : ℕ) → ((R : ℕ → ℕ → Ring) (new : Ring) → claims_b (stage_for R new x) ≡ true)
       → ((new : Ring) (gm : Claim) (gc : CodeClaim) → ClaimIs new c gm gc → StageClaims new gm gc x) → builds x ≡ not_building
       → ((C : ℕ) → StageFits C x → allowed_b c ≡ true) → ClaimAt x
@@ -161,7 +158,7 @@ module _ (n : ℕ) (fl : ℕ → Flavour) (s : State) (m : Machine) (cells : Lis
   small k l = let i = indices n fl c mem s v b k l in (omega (arith, i.0), omega (arith, i.1))
 
   -- the first tests find nothing
-  pub gate_open : (R : ℕ → ℕ → Ring) → Linked n fl R s m cells → (t : ℕ) → t < n → gate_of m (length cells) t ≡ Open
+  pub gate_open : (R : ℕ → ℕ → Ring) → Linked n fl R s m cells → (t : ℕ) → t < n → gate_of m (length cells) t ≡ CodeOk tt
   unfolding gate_of
   gate_open R w t lt =
       rw (linked_sound n fl R s m cells w mem v small, eq-eqb (length cells) (m.place_count * place_cells) w.pool_length, w.count, lt-ltb t n lt)
@@ -262,9 +259,9 @@ module _ (n : ℕ) (fl : ℕ → Flavour) (s : State) (m : Machine) (cells : Lis
     not_got f e = let z : ◌≡◌ {A = ℕ} 0 1 = cc in omega arith
 
     -- no ring to be had, or none wanted
-    without : (R : ℕ → ℕ → Ring) (w : Linked n fl R s m cells) → claim_of m (stage_for R (R t (s.queues t).top) x) ≡ J.Nothing
-        → StageClaims (R t (s.queues t).top) lost J.Nothing x → Turned
-    without R w e cl = turned R w lost J.Nothing e cl (omega arith) (λ f z. absurd (not_got f z))
+    without : (R : ℕ → ℕ → Ring) (w : Linked n fl R s m cells) → claim_of m (stage_for R (R t (s.queues t).top) x) ≡ None
+        → StageClaims (R t (s.queues t).top) lost None x → Turned
+    without R w e cl = turned R w lost None e cl (omega arith) (λ f z. absurd (not_got f z))
 
     -- the ring that the claim finds is named first
     with_ring : (R : ℕ → ℕ → Ring) (w : Linked n fl R s m cells) (a : ℕ) → ((R : ℕ → ℕ → Ring) (new : Ring) → claims_b (stage_for R new x) ≡ true)
@@ -273,7 +270,7 @@ module _ (n : ℕ) (fl : ℕ → Flavour) (s : State) (m : Machine) (cells : Lis
     unfolding free_ring
     with_ring R w a cb cl nb al fp nr =
         let e : R' t (s.queues t).top ≡ new = extend_same R t (s.queues t).top new in
-        let gc : CodeClaim = J.Got m.next_ring (record { 0 = free_place m }) in
+        let gc : CodeClaim = Some (record { number = m.next_ring; place = record { 0 = free_place m } }) in
         let f : ℕ → ℕ = pool_of cells (free_place m) in
         let up : suc m.next_ring.0 ≡ (m.next_ring.0 + 1) % 2 ^ 64 = sym (mod-eq_of_lt (omega arith) ∙ omega arith) in
         turned R' w' (got f) gc
@@ -313,8 +310,8 @@ module _ (n : ℕ) (fl : ℕ → Flavour) (s : State) (m : Machine) (cells : Lis
             → (p : Bool) → ltb (free_place m) m.place_count ≡ p → (r : Bool) → ltb m.next_ring.0 (2 ^ 64 - 1) ≡ r → Turned
         tests a cb cl nb al true e true h =
             with_ring R w a cb cl nb al (ltb-true (free_place m) m.place_count e) (ltb-true m.next_ring.0 (2 ^ 64 - 1) h)
-        tests a cb cl nb al true e false h = without R w (rw (cb R (R t (s.queues t).top), e, h)) (cl (R t (s.queues t).top) lost J.Nothing tt)
-        tests a cb cl nb al false e r h = without R w (rw (cb R (R t (s.queues t).top), e)) (cl (R t (s.queues t).top) lost J.Nothing tt)
+        tests a cb cl nb al true e false h = without R w (rw (cb R (R t (s.queues t).top), e, h)) (cl (R t (s.queues t).top) lost None tt)
+        tests a cb cl nb al false e r h = without R w (rw (cb R (R t (s.queues t).top), e)) (cl (R t (s.queues t).top) lost None tt)
 
         go : ClaimAt x → Turned
         go (no_claim f cl) = without R w (rw (f R (R t (s.queues t).top))) (cl (R t (s.queues t).top))

@@ -1,12 +1,10 @@
 -- A state of the model as a state of the code. The naming of rings is free: `R k r` is the ring that queue k's ring number r is; the ring that a
 -- thread builds is named from its claim on.
-use Rattle.std.specs.Prelude.{◌≡◌, ℕ, ◌+◌, ◌-◌, ◌/◌, ◌&&◌, List, pos, nat_le, nat_lt}
+use Rattle.std.specs.Prelude.{◌≡◌, ℕ, ◌+◌, ◌-◌, ◌/◌, ◌&&◌, List, pos, nat_le, nat_lt, Option, Some, None}
 use Rattle.base.specs.Tests.{pick}
 use Rattle.index.specs.declared.Index.{Index}
 use Rattle.index.specs.Index.{difference_of, length_of}
 use Rattle.ring.specs.declared.Ring.{Ring}
-use Rattle.ring.specs.declared.Capacity.{Capacity}
-use Rattle.ring.specs.declared.Capacity.TheVariants as C
 use Rattle.ring.specs.Capacity.{smallest, twice_of, holding_of}
 use Rattle.cells.specs.Cells.{written_of, copied_of}
 use Rattle.steal.specs.declared.Steal.TheVariants as T
@@ -31,8 +29,6 @@ use Rattle.parts.specs.declared.stage.LengthStage.TheVariants as N
 use Rattle.parts.specs.declared.stage.BatchKind.{BatchKind as CodeKind}
 use Rattle.parts.specs.declared.stage.BatchKind.TheVariants as K
 use Rattle.parts.specs.declared.stage.Wanted.{Wanted as CodeWanted}
-use Rattle.parts.specs.declared.stage.InHand.{InHand as CodeInHand}
-use Rattle.parts.specs.declared.stage.InHand.TheVariants as I
 use Rattle.parts.specs.declared.stage.Haul.{Haul as CodeHaul}
 use Rattle.parts.specs.declared.stage.AllStage.TheVariants as A
 use Rattle.parts.specs.declared.stage.OneStage.TheVariants as E
@@ -49,8 +45,6 @@ use Rattle.parts.specs.declared.stage.Stage.TheVariants as G
 use Rattle.parts.specs.declared.answer.Answer.{Answer as CodeAnswer}
 use Rattle.parts.specs.declared.answer.Answer.TheVariants as B
 use Rattle.parts.specs.declared.answer.Shortage.TheVariants.{TooLarge, NoRing}
-use Rattle.parts.specs.declared.out.Claim.{Claim as CodeClaim}
-use Rattle.parts.specs.declared.out.Claim.TheVariants as J
 use Rattle.parts.specs.declared.out.Out.{Out as CodeOut}
 use Rattle.gate.specs.declared.Operation.{Operation as CodeOperation}
 use Rattle.gate.specs.declared.Operation.TheVariants as Q
@@ -67,6 +61,7 @@ use Rattle.model.specs.Stage.{too_large, no_ring, Out}
 use Rattle.model.specs.Tables.{Claim, lost, got, Offer}
 use Rattle.model.specs.Machine.{Operation, do_push, do_pop, do_length, do_steal, do_batch}
 use Rattle.model.specs.Memory.{Note, kept, wrote, copied, claims, swaps}
+use Rattle.parts.specs.Out.{Claim as CodeClaim}
 
 -- ---- small parts
 
@@ -85,9 +80,9 @@ abbrev pub kind_of : BatchKind → CodeKind
 kind_of plain = K.Batch
 kind_of and_pop = K.BatchAndPop
 
-abbrev pub hand_for : InHand → CodeInHand
-hand_for none = I.Nothing
-hand_for (some v) = I.Job v
+abbrev pub hand_for : InHand → Option ℕ
+hand_for none = None
+hand_for (some v) = Some v
 
 abbrev pub wanted_for : Wanted → CodeWanted
 wanted_for w = record { kind = kind_of w.kind; f = ix w.f; n = w.n }
@@ -220,9 +215,9 @@ noted swaps cur new cells = cells
 
 -- ---- what the code offers the model's step
 
-abbrev pub size_of : Capacity → ℕ
-size_of (C.Of c) = c
-size_of C.TooLarge = 0
+abbrev pub size_of : Option ℕ → ℕ
+size_of (Some c) = c
+size_of None = 0
 
 -- the capacity of a resize that the step at a stage may begin, and 0 where it begins none
 abbrev pub offered : Stage → Queue → ℕ
@@ -268,10 +263,10 @@ offer_for g x q = record { capacity = offered x q; claim = g }
 
 -- the two sides of a claim: no ring on both, or the ring that is named new
 abbrev pub ClaimIs : Ring → ℕ → Claim → CodeClaim → Type 0
-ClaimIs new c lost J.Nothing = Unit
-ClaimIs new c lost (J.Got number place) = ⊥
-ClaimIs new c (got f) J.Nothing = ⊥
-ClaimIs new c (got f) (J.Got number place) = record { number = number; place = place; capacity = c } ≡ new
+ClaimIs new c lost None = Unit
+ClaimIs new c lost (Some r) = ⊥
+ClaimIs new c (got f) None = ⊥
+ClaimIs new c (got f) (Some r) = record { number = r.number; place = r.place; capacity = c } ≡ new
 
 -- what a stage's claim asks of the names
 abbrev pub ResizeClaims : Ring → Claim → CodeClaim → ResizeStage → Type 0

@@ -1,14 +1,13 @@
 -- A claim takes the lowest-numbered free place. Ring numbers count up; 2^64 - 1 is never given.
-use Rattle.std.specs.Prelude.{ℕ, Bool}
+use Rattle.std.specs.Prelude.{ℕ, Bool, None}
 use Rattle.base.specs.Tests.{pick}
 use Rattle.parts.specs.declared.stage.Stage.{Stage}
-use Rattle.parts.specs.declared.out.Claim.{Claim}
-use Rattle.parts.specs.declared.out.Claim.TheVariants.{Nothing}
 use Rattle.stages.specs.Stages.{claims_b}
 use Rattle.op_resize.specs.Resize.{found_of}
 use Rattle.places.specs.Places.{used_by_of, used_of, free_place_of}
 use Rattle.machine.specs.declared.state.Machine.{Machine}
 use Rattle.machine.specs.State.{queue_at, kept_at}
+use Rattle.parts.specs.Out.{Claim}
 
 abbrev pub used_by : Machine → ℕ → ℕ → Bool
 used_by m p i = used_by_of (queue_at m) (kept_at m) p i
@@ -25,4 +24,4 @@ free_ring m = found_of (free_place m) m.place_count m.next_ring
 
 -- what the step at a stage claims
 abbrev pub claim_of : Machine → Stage → Claim
-claim_of m s = pick (claims_b s) (free_ring m) Nothing
+claim_of m s = pick (claims_b s) (free_ring m) None

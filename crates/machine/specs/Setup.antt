@@ -1,14 +1,13 @@
 -- At setup queue q has ring q in place q, capacity 64; setup writes no cell. Setup tests 2, then 1; a refused one gives the machine of zeros.
-use Rattle.std.specs.Prelude.{ℕ, List, [], ◌∷◌, length, nat_lt, slice_index_or}
+use Rattle.std.specs.Prelude.{ℕ, List, [], ◌∷◌, length, nat_lt, slice_index_or, Result, Ok, Err}
 use Rattle.base.specs.Tests.{pick}
 use Rattle.ring.specs.Capacity.{smallest}
 use Rattle.parts.specs.declared.queue.Flavor.{Flavor}
 use Rattle.parts.specs.declared.queue.Flavor.TheVariants.{Fifo}
 use Rattle.parts.specs.declared.queue.Queue.{Queue}
 use Rattle.parts.specs.Queues.{zero_index, zero_queue}
+use Rattle.parts.specs.declared.answer.Refusal.{Refusal}
 use Rattle.parts.specs.declared.answer.Answer.TheVariants.{Done}
-use Rattle.gate.specs.declared.Gate.{Gate}
-use Rattle.gate.specs.declared.Gate.TheVariants.{Open, Shut}
 use Rattle.gate.specs.Gate.{setup_tests}
 use Rattle.machine.specs.declared.state.Thread.{Thread}
 use Rattle.machine.specs.declared.state.Machine.{Machine}
@@ -49,9 +48,9 @@ fresh_machine k flavors n = record {
   next_ring = record { 0 = k };
 }
 
-abbrev pub setting_up : Gate → ℕ → List Flavor → ℕ → List ℕ → After
-setting_up Open k flavors n cells = after (fresh_machine k flavors n) Done cells
-setting_up (Shut r) k flavors n cells = refused zero_machine r cells
+abbrev pub setting_up : Result Unit Refusal → ℕ → List Flavor → ℕ → List ℕ → After
+setting_up (Ok x) k flavors n cells = after (fresh_machine k flavors n) Done cells
+setting_up (Err r) k flavors n cells = refused zero_machine r cells
 
 -- k queues of these flavours, n places
 unfoldable pub setup_of : ℕ → List Flavor → ℕ → List ℕ → After

@@ -1,5 +1,5 @@
 -- The machine's parts, and the machine with one part changed.
-use Rattle.std.specs.Prelude.{ℕ, List, slice_index_or, slice_set}
+use Rattle.std.specs.Prelude.{ℕ, List, slice_index_or, slice_set, Some, None}
 use Rattle.ring.specs.declared.RingNumber.{RingNumber}
 use Rattle.ring.specs.Number.{next_number}
 use Rattle.parts.specs.declared.queue.Queue.{Queue}
@@ -12,11 +12,10 @@ use Rattle.parts.specs.declared.answer.Answer.{Answer}
 use Rattle.parts.specs.declared.answer.Answer.TheVariants.{Refused}
 use Rattle.parts.specs.declared.answer.Refusal.{Refusal}
 use Rattle.parts.specs.Answers.{Told, told}
-use Rattle.parts.specs.declared.out.Claim.{Claim}
-use Rattle.parts.specs.declared.out.Claim.TheVariants.{Nothing, Got}
 use Rattle.machine.specs.declared.state.Thread.{Thread}
 use Rattle.machine.specs.declared.state.Machine.{Machine}
 use Rattle.machine.specs.declared.state.Called.{Called}
+use Rattle.parts.specs.Out.{Claim}
 
 -- what a call leaves: the machine with the answer, the pool's cells, and what the answer tells, by its numbers
 pub record After : Type 0 where
@@ -70,8 +69,8 @@ with_stage m t s = record {
 
 -- ring numbers count up: the next, after a claim
 abbrev pub number_after : RingNumber → Claim → RingNumber
-number_after n Nothing = n
-number_after n (Got number place) = next_number number
+number_after n None = n
+number_after n (Some r) = next_number r.number
 
 abbrev pub counted : Machine → Claim → Machine
 counted m g = record {

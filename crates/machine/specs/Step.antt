@@ -1,13 +1,11 @@
 -- Step tests 3, 1, 4, 6. Then it looks up the stage, claims a ring if the stage wants one, makes the step on the one queue that it touches,
 -- and stores queue and stage back.
-use Rattle.std.specs.Prelude.{ℕ, List, length}
+use Rattle.std.specs.Prelude.{ℕ, List, length, Result, Ok, Err}
+use Rattle.parts.specs.declared.answer.Refusal.{Refusal}
 use Rattle.parts.specs.declared.stage.Stage.{Stage}
-use Rattle.parts.specs.declared.out.Claim.{Claim}
-use Rattle.parts.specs.Out.{Left}
+use Rattle.parts.specs.Out.{Claim, Left}
 use Rattle.stages.specs.Stages.{touched_of, idle_b}
 use Rattle.advance.specs.Advance.{advance_of}
-use Rattle.gate.specs.declared.Gate.{Gate}
-use Rattle.gate.specs.declared.Gate.TheVariants.{Open, Shut}
 use Rattle.gate.specs.Gate.{own_queue, call_tests, step_tests, then_gate}
 use Rattle.machine.specs.declared.state.Machine.{Machine}
 use Rattle.machine.specs.State.{After, after, refused, queue_at, stage_at, with_queue, with_stage, counted}
@@ -15,13 +13,13 @@ use Rattle.machine.specs.Sound.{sound_b}
 use Rattle.machine.specs.Claim.{claim_of}
 
 -- what begin and step share; len is the pool's length
-unfoldable pub gate_of : Machine → ℕ → ℕ → Gate
+unfoldable pub gate_of : Machine → ℕ → ℕ → Result Unit Refusal
 gate_of m len t = call_tests (sound_b m) m.place_count len m.queue_count t
 
 -- all as it was where a test found something
-abbrev pub passing : Gate → Machine → List ℕ → After → After
-passing Open m cells a = a
-passing (Shut r) m cells a = refused m r cells
+abbrev pub passing : Result Unit Refusal → Machine → List ℕ → After → After
+passing (Ok x) m cells a = a
+passing (Err r) m cells a = refused m r cells
 
 -- what the step of thread t at stage s leaves, of the queue that it touches; g: what a claim found
 abbrev pub advanced : Machine → List ℕ → ℕ → Stage → Claim → Left

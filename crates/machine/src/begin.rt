@@ -7,19 +7,18 @@ ghost use Rattle.machine.specs.Step.{gate_of};
 ghost use Rattle.machine.specs.Begin.{begun as begunOf, begin_of};
 
 use crate::state::{Called, Machine};
-use gate::tests::{begin_tests, then_gate};
-use gate::{Gate, Operation, own_queue};
-use parts::answer::Answer;
+use gate::tests::begin_tests;
+use gate::{Operation, own_queue};
+use parts::answer::{Answer, Refusal};
 use starts::first_stage;
 
 impl Machine {
     // All the tests of a begin, in order.
-    fn may_begin(self, length: usize, thread: usize, operation: Operation) -> Gate
+    fn may_begin(self, length: usize, thread: usize, operation: Operation) -> Result<(), Refusal>
         ensures { result ≡ then_gate (gate_of self length thread) (begin_tests self.queue_count (idle_b (stage_at self thread)) operation) }
     {
-        let idle = self.idle(thread);
-        let tests = begin_tests(self.queue_count, idle, operation);
-        then_gate(self.gate(length, thread), tests)
+        self.gate(length, thread)?;
+        begin_tests(self.queue_count, self.idle(thread), operation)
     }
 
     // The machine with the operation's first stage.
@@ -27,26 +26,19 @@ impl Machine {
         ensures { result ≡ (begunOf self [] thread operation).called.machine }
     {
         let own = own_queue(thread);
-        let mine = self.queue(own);
-        let flavor = mine.flavor;
-        self.with_stage(thread, first_stage(flavor, own, operation))
+        self.with_stage(thread, first_stage(self.queue(own).flavor, own, operation))
     }
 
     #[tactic(auto, unfolding(crate::specs::Begin::begin_of))]
-    pub fn begin(mut self, pool: &[u64], thread: usize, operation: Operation) -> Called
+    pub fn begin(self, pool: &[u64], thread: usize, operation: Operation) -> Called
         ensures { leaves result pool.now ≡ begin_of self pool.now thread operation }
     {
         match self.may_begin(pool.len(), thread, operation) {
-            Gate::Open => {
-                self = self.begun(thread, operation);
-                return Called {
-                    machine: self,
-                    answer: Answer::Working,
-                };
-            }
-            Gate::Shut(refusal) => {
-                return self.refused(refusal);
-            }
+            Ok(()) => Called {
+                machine: self.begun(thread, operation),
+                answer: Answer::Working,
+            },
+            Err(refusal) => self.refused(refusal),
         }
     }
 }

@@ -11,12 +11,8 @@ impl Machine {
         ensures { leaves result pool.new ≡ call_of self pool.old thread request }
     {
         match request {
-            Request::Step => {
-                return self.step(pool, thread);
-            }
-            Request::Begin(operation) => {
-                return self.begin(pool, thread, operation);
-            }
+            Request::Step => self.step(pool, thread),
+            Request::Begin(operation) => self.begin(pool, thread, operation),
         }
     }
 }

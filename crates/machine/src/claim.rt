@@ -6,7 +6,6 @@ use crate::state::Machine;
 use op_resize::found;
 use parts::out::Claim;
 use parts::stage::Stage;
-use places::used::free_place;
 use stages::claims;
 
 impl Machine {
@@ -14,9 +13,7 @@ impl Machine {
     fn free_ring(self) -> Claim
         ensures { result ≡ free_ring self }
     {
-        let kept = self.rings_kept();
-        let queues = self.queues;
-        let place = free_place(queues, kept, self.queue_count, self.place_count);
+        let place = self.rings().free_place(self.place_count);
         found(place, self.place_count, self.next_ring)
     }
 
@@ -27,6 +24,6 @@ impl Machine {
         if claims(stage) {
             return self.free_ring();
         }
-        Claim::Nothing
+        None
     }
 }

@@ -5,7 +5,6 @@ ghost use Rattle.machine.specs.State.{leaves, after};
 ghost use Rattle.machine.specs.Setup.{idle_threads, fresh_queue, fresh_queues, fresh_machine, setup_of};
 
 use crate::state::{Called, Machine, Thread};
-use gate::Gate;
 use gate::tests::setup_tests;
 use index::Index;
 use parts::answer::Answer;
@@ -17,7 +16,7 @@ use ring::{PlaceNumber, Ring, RingNumber};
 fn flavor_at(flavors: [Flavor; 4], q: usize) -> Flavor
     ensures { result ≡ slice_index_or flavors q Fifo }
 {
-    if q < 4 { flavors[q] } else { Flavor::Fifo }
+    flavors.get(q).copied().unwrap_or(Flavor::Fifo)
 }
 
 // Queue q has ring q in place q.
@@ -25,17 +24,15 @@ fn fresh_queue(count: usize, flavors: [Flavor; 4], q: usize) -> Queue
     ensures { result ≡ fresh_queue count flavors q }
 {
     if q < count {
-        let flavor = flavor_at(flavors, q);
-        let ring = Ring {
-            number: RingNumber(q as u64),
-            place: PlaceNumber(q),
-            capacity: Ring::SMALLEST,
-        };
         return Queue {
-            flavor,
+            flavor: flavor_at(flavors, q),
             front: Index(0),
             back: Index(0),
-            ring,
+            ring: Ring {
+                number: RingNumber(q as u64),
+                place: PlaceNumber(q),
+                capacity: Ring::SMALLEST,
+            },
         };
     }
     zero_queue()
@@ -44,28 +41,21 @@ fn fresh_queue(count: usize, flavors: [Flavor; 4], q: usize) -> Queue
 fn fresh_queues(count: usize, flavors: [Flavor; 4]) -> [Queue; 4]
     ensures { result ≡ fresh_queues count flavors }
 {
-    let q0 = fresh_queue(count, flavors, 0);
-    let q1 = fresh_queue(count, flavors, 1);
-    let q2 = fresh_queue(count, flavors, 2);
-    let q3 = fresh_queue(count, flavors, 3);
-    [q0, q1, q2, q3]
+    std::array::from_fn(|q| fresh_queue(count, flavors, q))
 }
 
 fn idle_threads() -> [Thread; 4]
     ensures { result ≡ idle_threads }
 {
-    let idle = Thread { stage: Stage::Idle };
-    [idle; 4]
+    [Thread { stage: Stage::Idle }; 4]
 }
 
 fn fresh_machine(count: usize, flavors: [Flavor; 4], places: usize) -> Machine
     ensures { result ≡ fresh_machine count flavors places }
 {
-    let queues = fresh_queues(count, flavors);
-    let threads = idle_threads();
     Machine {
-        queues,
-        threads,
+        queues: fresh_queues(count, flavors),
+        threads: idle_threads(),
         queue_count: count,
         place_count: places,
         next_ring: RingNumber(count as u64),
@@ -75,8 +65,10 @@ fn fresh_machine(count: usize, flavors: [Flavor; 4], places: usize) -> Machine
 fn fresh(count: usize, flavors: [Flavor; 4], places: usize, answer: Answer) -> Called
     ensures { result ≡ (after (fresh_machine count flavors places) answer []).called }
 {
-    let machine = fresh_machine(count, flavors, places);
-    Called { machine, answer }
+    Called {
+        machine: fresh_machine(count, flavors, places),
+        answer,
+    }
 }
 
 impl Machine {
@@ -86,12 +78,8 @@ impl Machine {
         ensures { leaves result pool.now ≡ setup_of queues flavors places pool.now }
     {
         match setup_tests(queues, places, pool.len()) {
-            Gate::Open => {
-                return fresh(queues, flavors, places, Answer::Done);
-            }
-            Gate::Shut(refusal) => {
-                return fresh(0, flavors, 0, Answer::Refused(refusal));
-            }
+            Ok(()) => fresh(queues, flavors, places, Answer::Done),
+            Err(refusal) => fresh(0, flavors, 0, Answer::Refused(refusal)),
         }
     }
 }

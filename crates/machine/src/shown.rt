@@ -6,7 +6,7 @@ use crate::state::Machine;
 use cells::PLACE_CELLS;
 use gate::tests::is_pool;
 
-// A part of the pool: its first cell, and how many cells it has.
+// A part of the pool: its first cell, and how many cells it has, as callers in C are told it.
 #[derive(Clone, Copy)]
 pub struct Part {
     pub start: usize,

@@ -8,6 +8,7 @@ use parts::answer::{Answer, Refusal};
 use parts::out::Claim;
 use parts::queue::{Queue, queue_of};
 use parts::stage::Stage;
+use places::rings::Rings;
 use ring::RingNumber;
 
 #[derive(Clone, Copy)]
@@ -15,7 +16,7 @@ pub struct Thread {
     pub stage: Stage,
 }
 
-// Queues and threads above the count are not looked at.
+// Memory is fixed, so there are four of each; queues and threads above the count are not looked at.
 #[derive(Clone, Copy)]
 pub struct Machine {
     pub queues: [Queue; 4],
@@ -32,12 +33,7 @@ pub struct Called {
     pub answer: Answer,
 }
 
-fn stage_of(thread: Thread) -> Stage
-    ensures { result ≡ thread.stage }
-{
-    thread.stage
-}
-
+// By index: through `get_mut` the proof did not close.
 pub(crate) fn queues_with(mut queues: [Queue; 4], k: usize, q: Queue) -> [Queue; 4]
     ensures { result ≡ slice_set queues k q }
 {
@@ -52,8 +48,8 @@ pub(crate) fn number_after(next: RingNumber, claim: Claim) -> RingNumber
     ensures { result ≡ number_after next claim }
 {
     match claim {
-        Claim::Nothing => next,
-        Claim::Got { number, place: _ } => number.next(),
+        None => next,
+        Some(claimed) => claimed.number.next(),
     }
 }
 
@@ -62,44 +58,46 @@ impl Machine {
     pub fn queue(self, k: usize) -> Queue
         ensures { result ≡ queue_at self k }
     {
-        let queues = self.queues;
-        queue_of(queues, k)
+        queue_of(self.queues, k)
     }
 
     // Thread t's stage, and idle where there is none.
     pub fn stage(self, t: usize) -> Stage
         ensures { result ≡ stage_at self t }
     {
-        if t < 4 {
-            return stage_of(self.threads[t]);
+        match self.threads.get(t) {
+            Some(thread) => thread.stage,
+            None => Stage::Idle,
         }
-        Stage::Idle
-    }
-
-    // The ring that thread t keeps.
-    fn kept(self, t: usize) -> Kept
-        ensures { result ≡ kept_at self t }
-    {
-        ring_kept(self.stage(t))
     }
 
     // The rings that the threads keep.
-    pub(crate) fn rings_kept(self) -> [Kept; 4]
+    fn rings_kept(self) -> [Kept; 4]
         ensures { kept_in result ≡ kept_at self }
     {
-        let k0 = self.kept(0);
-        let k1 = self.kept(1);
-        let k2 = self.kept(2);
-        let k3 = self.kept(3);
-        [k0, k1, k2, k3]
+        self.threads.map(|thread| ring_kept(thread.stage))
+    }
+
+    // The rings that places are looked up in.
+    pub(crate) fn rings(self) -> Rings
+        ensures queues { result.queues ≡ self.queues }
+        ensures kept { kept_in result.kept ≡ kept_at self }
+        ensures count { result.count ≡ self.queue_count }
+    {
+        let queues = self.queues;
+        let kept = self.rings_kept();
+        Rings {
+            queues,
+            kept,
+            count: self.queue_count,
+        }
     }
 
     pub(crate) fn with_stage(mut self, t: usize, stage: Stage) -> Machine
         ensures { result ≡ with_stage self t stage }
     {
         if t < 4 {
-            let thread = Thread { stage };
-            self.threads[t] = thread;
+            self.threads[t] = Thread { stage };
         }
         self
     }

@@ -9,43 +9,37 @@ ghost use Rattle.machine.specs.Step.{gate_of, stored as stored_of, step_of};
 
 use crate::state::{Called, Machine, number_after, queues_with};
 use advance::advance;
-use gate::tests::{step_tests, then_gate};
-use gate::{Gate, own_queue};
+use gate::own_queue;
+use gate::tests::step_tests;
+use parts::answer::Refusal;
 use parts::out::{Claim, Out};
 use parts::stage::Stage;
 use stages::{is_idle, touched};
 
 impl Machine {
     // All the tests of a step at a stage, in order.
-    fn may_step(self, length: usize, thread: usize, stage: Stage) -> Gate
+    fn may_step(self, length: usize, thread: usize, stage: Stage) -> Result<(), Refusal>
         ensures { result ≡ then_gate (gate_of self length thread) (step_tests (idle_b stage)) }
     {
-        then_gate(self.gate(length, thread), step_tests(is_idle(stage)))
+        self.gate(length, thread)?;
+        step_tests(is_idle(stage))
     }
 
     // What the step at a stage leaves of queue k, which it touches, given what it claims.
     fn advanced(self, pool: &mut [u64], own: usize, stage: Stage, k: usize, claim: Claim) -> Out
         ensures { left result pool.new ≡ advance_of stage (queue_at self own).flavor (queue_at self k) claim pool.old }
     {
-        let q = self.queue(k);
-        let mine = self.queue(own);
-        let flavor = mine.flavor;
-        advance(stage, flavor, q, claim, pool)
+        advance(stage, self.queue(own).flavor, self.queue(k), claim, pool)
     }
 
     // The machine with what the thread's step left of queue k.
     fn stored(mut self, thread: usize, k: usize, out: Out) -> Called
         ensures { result ≡ (stored_of self thread k (left out [])).called }
     {
-        let stage = out.stage;
-        let queues = self.queues;
-        let changed = queues_with(queues, k, out.queue);
-        self.queues = changed;
-        self = self.with_stage(thread, stage);
-        let answer = out.answer;
+        self.queues = queues_with(self.queues, k, out.queue);
         Called {
-            machine: self,
-            answer,
+            machine: self.with_stage(thread, out.stage),
+            answer: out.answer,
         }
     }
 
@@ -55,17 +49,15 @@ impl Machine {
     {
         let stage = self.stage(thread);
         match self.may_step(pool.len(), thread, stage) {
-            Gate::Open => {
+            Ok(()) => {
                 let own = own_queue(thread);
                 let k = touched(stage, own);
                 let claim = self.claim(stage);
                 let out = self.advanced(pool, own, stage, k, claim);
                 self.next_ring = number_after(self.next_ring, claim);
-                return self.stored(thread, k, out);
+                self.stored(thread, k, out)
             }
-            Gate::Shut(refusal) => {
-                return self.refused(refusal);
-            }
+            Err(refusal) => self.refused(refusal),
         }
     }
 }

@@ -5,8 +5,8 @@ ghost use Rattle.machine.specs.State.{stage_at};
 ghost use Rattle.machine.specs.Step.{gate_of};
 
 use crate::state::Machine;
-use gate::Gate;
 use gate::tests::call_tests;
+use parts::answer::Refusal;
 use stages::is_idle;
 
 impl Machine {
@@ -17,7 +17,7 @@ impl Machine {
     }
 
     #[tactic(auto, unfolding(crate::specs::Step::gate_of))]
-    pub(crate) fn gate(self, length: usize, thread: usize) -> Gate
+    pub(crate) fn gate(self, length: usize, thread: usize) -> Result<(), Refusal>
         ensures { result ≡ gate_of self length thread }
     {
         call_tests(

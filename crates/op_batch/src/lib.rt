@@ -1,56 +1,36 @@
 // What both halves of a batch share: how many jobs it wants, which stage comes next, which cells it works on.
 #![tactic(auto)]
 
-ghost use Rattle.std.specs.Prelude.{◌≡◌, ◌+◌, min};
-ghost use Rattle.op_batch.specs.Haul.{take_at, put_at, reserve_at, wanted_of, reserving as reservingOf, with_job, onward as onwardOf, with_count, turn_of, first_of, copying as copyingOf, mirror_of, slot_of, swapping as swappingOf, landing as landingOf, is_nothing, stopped as stoppedOf, turning as turningOf, written_after, to_write, next_in_hand, answer_of};
+ghost use Rattle.std.specs.Prelude.{◌≡◌, ◌+◌};
+ghost use Rattle.op_batch.specs.Haul.{take_at, put_at, reserve_at, wanted_of, reserving as reservingOf, with_job, onward as onwardOf, with_count, turn_of, first_of, copying as copyingOf, mirror_of, slot_of, swapping as swappingOf, landing as landingOf, stopped as stoppedOf, turning as turningOf, written_after, to_write, next_in_hand, answer_of};
 
 use index::Index;
 use parts::answer::Answer;
+use parts::out::StepOut;
 use parts::queue::{Flavor, Queue};
 use parts::stage::{
-    AllStage, BatchKind, Haul, InHand, OneStage, OwnStage, PutStage, ReserveStage, SourceStage,
+    AllStage, BatchKind, BatchStage, Haul, OneStage, OwnStage, PutStage, ReserveStage, SourceStage,
     SwapStage, TakeStage, Wanted,
 };
 use steal::Steal;
 
-// What a step of a batch leaves: the queue that it touched, with the next stage, on the source or on the own queue, or the answer.
-#[derive(Clone, Copy)]
-pub enum BatchOut {
-    Source(Queue, SourceStage),
-    Own(Queue, OwnStage),
-    Ended(Queue, Answer),
-}
-
-// Whether one more is to be done: the next, after so many, or none.
-#[derive(Clone, Copy)]
-pub enum Further {
-    Next(u64),
-    Over,
-}
-
 // On to a stage of a part of the batch.
-pub fn take_at(q: Queue, haul: Haul, at: TakeStage) -> BatchOut
+pub fn take_at(q: Queue, haul: Haul, at: TakeStage) -> StepOut<BatchStage>
     ensures { result ≡ take_at q haul at }
 {
-    BatchOut::Source(q, SourceStage::Take(haul, at))
+    StepOut::Going(q, BatchStage::Source(SourceStage::Take(haul, at)))
 }
 
-pub fn put_at(q: Queue, haul: Haul, at: PutStage) -> BatchOut
+pub fn put_at(q: Queue, haul: Haul, at: PutStage) -> StepOut<BatchStage>
     ensures { result ≡ put_at q haul at }
 {
-    BatchOut::Own(q, OwnStage::Put(haul, at))
+    StepOut::Going(q, BatchStage::Own(OwnStage::Put(haul, at)))
 }
 
-pub fn reserve_at(q: Queue, wanted: Wanted, at: ReserveStage) -> BatchOut
+pub fn reserve_at(q: Queue, wanted: Wanted, at: ReserveStage) -> StepOut<BatchStage>
     ensures { result ≡ reserve_at q wanted at }
 {
-    BatchOut::Own(q, OwnStage::Reserve(wanted, at))
-}
-
-fn smaller(a: u64, b: u64) -> u64
-    ensures { result ≡ min a b }
-{
-    if a <= b { a } else { b }
+    StepOut::Going(q, BatchStage::Own(OwnStage::Reserve(wanted, at)))
 }
 
 // How many jobs to move, of a source with length d, where the limit is others + 1.
@@ -62,12 +42,7 @@ pub fn wanted(kind: BatchKind, d: u64, others: u64) -> u64
             let half = d / 2 + d % 2;
             if half <= others { half } else { others + 1 }
         }
-        BatchKind::BatchAndPop => {
-            if d == 0 {
-                return 0;
-            }
-            smaller((d - 1) / 2, others)
-        }
+        BatchKind::BatchAndPop => { (d.saturating_sub(1) / 2).min(others) }
     }
 }
 
@@ -84,78 +59,66 @@ pub fn reserving(wanted: Wanted) -> OwnStage
 pub fn with_job(haul: Haul, job: u64) -> Haul
     ensures { result ≡ with_job haul job }
 {
-    let ring = haul.ring;
-    let f = haul.f;
-    let b = haul.b;
     Haul {
-        ring,
-        f,
-        n: haul.n,
-        b,
-        in_hand: InHand::Job(job),
+        in_hand: Some(job),
+        ..haul
     }
 }
 
 // An exchange was won: f goes up.
-pub fn onward(haul: Haul, in_hand: InHand) -> Haul
+pub fn onward(haul: Haul, in_hand: Option<u64>) -> Haul
     ensures { result ≡ onwardOf haul in_hand }
 {
-    let ring = haul.ring;
-    let b = haul.b;
     Haul {
-        ring,
         f: haul.f.plus(1),
-        n: haul.n,
-        b,
         in_hand,
+        ..haul
     }
 }
 
 fn with_count(haul: Haul, n: u64) -> Haul
     ensures { result ≡ with_count haul n }
 {
-    let mut r = haul;
-    r.n = n;
-    r
+    Haul { n, ..haul }
 }
 
-// Of n, so many are done.
-pub fn turn(n: u64, done: u64) -> Further
+// Of n, so many are done: the next, or none.
+pub fn turn(n: u64, done: u64) -> Option<u64>
     ensures { result ≡ turn_of n done }
 {
     if n <= done {
-        return Further::Over;
+        return None;
     }
-    Further::Next(done)
+    Some(done)
 }
 
 // Of n, one more than so many are done.
-pub fn turn_after(n: u64, done: u64) -> Further
+pub fn turn_after(n: u64, done: u64) -> Option<u64>
     ensures { result ≡ turn_of n (done + 1) }
 {
     if n <= done {
-        return Further::Over;
+        return None;
     }
     turn(n, done + 1)
 }
 
 // The first of the jobs to be copied: at f, or the next where the job at f is in hand.
-pub fn first(in_hand: InHand, f: Index) -> Index
+pub fn first(in_hand: Option<u64>, f: Index) -> Index
     ensures { result ≡ first_of in_hand f }
 {
     match in_hand {
-        InHand::Nothing => f,
-        InHand::Job(_) => f.plus(1),
+        None => f,
+        Some(_) => f.plus(1),
     }
 }
 
 // Copy the next, or load the ring again.
-pub fn copying(further: Further) -> TakeStage
+pub fn copying(further: Option<u64>) -> TakeStage
     ensures { result ≡ copyingOf further }
 {
     match further {
-        Further::Next(i) => TakeStage::All(AllStage::Copy { i }),
-        Further::Over => TakeStage::All(AllStage::ReloadRing),
+        Some(i) => TakeStage::All(AllStage::Copy { i }),
+        None => TakeStage::All(AllStage::ReloadRing),
     }
 }
 
@@ -177,15 +140,15 @@ pub fn slot(own: Flavor, haul: Haul, i: u64) -> Index
 }
 
 // Make the next swap, or store the own back.
-pub fn swapping(further: Further) -> PutStage
+pub fn swapping(further: Option<u64>) -> PutStage
     ensures { result ≡ swappingOf further }
 {
     match further {
-        Further::Next(x) => PutStage::Swap {
+        Some(x) => PutStage::Swap {
             x,
             at: SwapStage::ReadNear,
         },
-        Further::Over => PutStage::StoreBack,
+        None => PutStage::StoreBack,
     }
 }
 
@@ -199,28 +162,18 @@ fn landing(own: Flavor, n: u64) -> PutStage
     }
 }
 
-fn is_nothing(in_hand: InHand) -> bool
-    ensures { result ≡ is_nothing in_hand }
-{
-    match in_hand {
-        InHand::Nothing => true,
-        InHand::Job(_) => false,
-    }
-}
-
 // Taking one by one is over, with so many written.
-pub fn stopped(own: Flavor, haul: Haul, i: u64, q: Queue) -> BatchOut
+pub fn stopped(own: Flavor, haul: Haul, i: u64, q: Queue) -> StepOut<BatchStage>
     ensures { result ≡ stoppedOf own haul i q }
 {
-    let in_hand = haul.in_hand;
-    if is_nothing(in_hand) & (i == 0) {
-        return BatchOut::Ended(q, Answer::Stolen(Steal::Retry));
+    if haul.in_hand.is_none() && i == 0 {
+        return StepOut::Ended(q, Answer::Stolen(Steal::Retry));
     }
     put_at(q, with_count(haul, i), landing(own, i))
 }
 
 // So many are written: load the back again for the next, or stop after n.
-pub fn turning(own: Flavor, haul: Haul, i: u64, q: Queue) -> BatchOut
+pub fn turning(own: Flavor, haul: Haul, i: u64, q: Queue) -> StepOut<BatchStage>
     ensures { result ≡ turningOf own haul i q }
 {
     if haul.n <= i {
@@ -233,33 +186,33 @@ pub fn turning(own: Flavor, haul: Haul, i: u64, q: Queue) -> BatchOut
 pub fn written_after(i: u64) -> u64
     ensures { result ≡ written_after i }
 {
-    std::num::wrapping_add_u64(i, 1)
+    i.wrapping_add(1)
 }
 
 // The exchange for a job was won: what to write, of a batch and pop the previous job.
-pub fn to_write(in_hand: InHand, job: u64) -> u64
+pub fn to_write(in_hand: Option<u64>, job: u64) -> u64
     ensures { result ≡ to_write in_hand job }
 {
     match in_hand {
-        InHand::Nothing => job,
-        InHand::Job(previous) => previous,
+        None => job,
+        Some(previous) => previous,
     }
 }
 
-pub fn next_in_hand(in_hand: InHand, job: u64) -> InHand
+pub fn next_in_hand(in_hand: Option<u64>, job: u64) -> Option<u64>
     ensures { result ≡ next_in_hand in_hand job }
 {
     match in_hand {
-        InHand::Nothing => InHand::Nothing,
-        InHand::Job(_previous) => InHand::Job(job),
+        None => None,
+        Some(_previous) => Some(job),
     }
 }
 
-pub fn answer(in_hand: InHand) -> Answer
+pub fn answer(in_hand: Option<u64>) -> Answer
     ensures { result ≡ answer_of in_hand }
 {
     match in_hand {
-        InHand::Nothing => Answer::Moved,
-        InHand::Job(job) => Answer::Stolen(Steal::Success(job)),
+        None => Answer::Moved,
+        Some(job) => Answer::Stolen(Steal::Success(job)),
     }
 }

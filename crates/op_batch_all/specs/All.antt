@@ -13,11 +13,12 @@ use Rattle.parts.specs.declared.stage.TakeStage.TheVariants.{All}
 use Rattle.parts.specs.declared.stage.PutStage.TheVariants.{WriteCopy, StoreBack}
 use Rattle.parts.specs.declared.answer.Answer.TheVariants.{Stolen}
 use Rattle.parts.specs.Out.{with_front}
-use Rattle.op_batch.specs.declared.BatchOut.{BatchOut}
-use Rattle.op_batch.specs.declared.BatchOut.TheVariants.{Ended}
+use Rattle.parts.specs.declared.out.StepOut.{StepOut}
+use Rattle.parts.specs.declared.stage.BatchStage.{BatchStage}
+use Rattle.parts.specs.declared.out.StepOut.TheVariants.{Ended}
 use Rattle.op_batch.specs.Haul.{take_at, put_at, first_of}
 
-abbrev pub all_step_of : Haul → AllStage → Queue → List ℕ → BatchOut
+abbrev pub all_step_of : Haul → AllStage → Queue → List ℕ → StepOut BatchStage
 all_step_of h (Copy i) q cells = put_at q h (WriteCopy i (read_of cells h.ring (plus_of (first_of h.in_hand h.f) i)))
 all_step_of h ReloadRing q cells =
     pick (q.ring.number.0 == h.ring.number.0) (take_at q h (All Exchange)) (Ended q (Stolen Retry))

@@ -7,13 +7,14 @@ use Rattle.parts.specs.declared.stage.Haul.{Haul}
 use Rattle.parts.specs.declared.stage.PutStage.{PutStage}
 use Rattle.parts.specs.declared.stage.PutStage.TheVariants.{WriteCopy, WriteOne, Swap, StoreBack}
 use Rattle.parts.specs.Out.{with_back}
-use Rattle.op_batch.specs.declared.BatchOut.{BatchOut}
-use Rattle.op_batch.specs.declared.BatchOut.TheVariants.{Ended}
+use Rattle.parts.specs.declared.out.StepOut.{StepOut}
+use Rattle.parts.specs.declared.stage.BatchStage.{BatchStage}
+use Rattle.parts.specs.declared.out.StepOut.TheVariants.{Ended}
 use Rattle.op_batch.specs.Haul.{take_at, put_at, turn_of, copying, slot_of, turning, written_after, answer_of}
 use Rattle.op_batch_put.specs.Swap.{swap_of}
 
 -- with the pool's cells
-abbrev pub put_of : Haul → PutStage → Queue → List ℕ → BatchOut × List ℕ
+abbrev pub put_of : Haul → PutStage → Queue → List ℕ → StepOut BatchStage × List ℕ
 put_of h (WriteCopy i job) q cells =
     (take_at q h (copying (turn_of h.n (i + 1))), written_of cells q.ring (slot_of q.flavor h i) job)
 put_of h (WriteOne i job) q cells =

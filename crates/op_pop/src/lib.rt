@@ -6,24 +6,24 @@ ghost use Rattle.op_pop.specs.Pop.{pop_of};
 
 use op_pop_fifo::fifo_pop_step;
 use op_pop_lifo::lifo_pop_step;
-use op_shrink::{PopOut, shrink_step};
-use parts::out::Claim;
+use op_shrink::shrink_step;
+use parts::out::{Claim, StepOut};
 use parts::queue::Queue;
 use parts::stage::{PopStage, Popper};
 
 // A step of a pop from queue q.
-pub fn pop_step(popper: Popper, at: PopStage, q: Queue, claim: Claim, pool: &mut [u64]) -> PopOut
+pub fn pop_step(
+    popper: Popper,
+    at: PopStage,
+    q: Queue,
+    claim: Claim,
+    pool: &mut [u64],
+) -> StepOut<PopStage>
     ensures { (result, pool.new) ≡ pop_of popper at q claim pool.old }
 {
     match at {
-        PopStage::Fifo(stage) => {
-            return fifo_pop_step(popper, stage, q, pool);
-        }
-        PopStage::Lifo(stage) => {
-            return lifo_pop_step(popper, stage, q, pool);
-        }
-        PopStage::Shrink { job, at } => {
-            return shrink_step(popper, job, at, q, claim, pool);
-        }
+        PopStage::Fifo(stage) => fifo_pop_step(popper, stage, q, pool),
+        PopStage::Lifo(stage) => lifo_pop_step(popper, stage, q, pool),
+        PopStage::Shrink { job, at } => shrink_step(popper, job, at, q, claim, pool),
     }
 }

@@ -11,15 +11,16 @@ use Rattle.parts.specs.declared.stage.FifoPopStage.TheVariants.{LoadBack, LoadFr
 use Rattle.parts.specs.declared.stage.PopStage.TheVariants.{Fifo}
 use Rattle.parts.specs.declared.stage.Popper.{Popper}
 use Rattle.parts.specs.Out.{with_front}
-use Rattle.op_shrink.specs.declared.PopOut.{PopOut}
-use Rattle.op_shrink.specs.declared.PopOut.TheVariants.{Going, Ended}
+use Rattle.parts.specs.declared.out.StepOut.{StepOut}
+use Rattle.parts.specs.declared.out.StepOut.TheVariants.{Going, Ended}
 use Rattle.op_shrink.specs.Shrink.{others_of, nothing_for, reading}
+use Rattle.parts.specs.declared.stage.PopStage.{PopStage}
 
 -- on to a stage of the FIFO pop
-abbrev pub fifo : Queue → FifoPopStage → PopOut
+abbrev pub fifo : Queue → FifoPopStage → StepOut PopStage
 fifo q at = Going q (Fifo at)
 
-abbrev pub fifo_pop_of : Popper → FifoPopStage → Queue → List ℕ → PopOut
+abbrev pub fifo_pop_of : Popper → FifoPopStage → Queue → List ℕ → StepOut PopStage
 fifo_pop_of w LoadBack q cells = fifo q (LoadFront q.back)
 fifo_pop_of w (LoadFront b) q cells = pick (empty_b b q.front) (Ended q (nothing_for w)) (fifo q (FetchAdd b (others_of b q.front)))
 fifo_pop_of w (FetchAdd b others) q cells =

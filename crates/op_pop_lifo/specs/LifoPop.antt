@@ -13,12 +13,13 @@ use Rattle.parts.specs.declared.stage.LifoPopStage.TheVariants.{LoadBack, LoadFr
 use Rattle.parts.specs.declared.stage.PopStage.TheVariants.{Lifo}
 use Rattle.parts.specs.declared.stage.Popper.{Popper}
 use Rattle.parts.specs.Out.{with_front, with_back}
-use Rattle.op_shrink.specs.declared.PopOut.{PopOut}
-use Rattle.op_shrink.specs.declared.PopOut.TheVariants.{Going, Ended}
+use Rattle.parts.specs.declared.out.StepOut.{StepOut}
+use Rattle.parts.specs.declared.out.StepOut.TheVariants.{Going, Ended}
 use Rattle.op_shrink.specs.Shrink.{others_of, nothing_for, job_for, reading}
+use Rattle.parts.specs.declared.stage.PopStage.{PopStage}
 
 -- on to a stage of the LIFO pop
-abbrev pub lifo : Queue → LifoPopStage → PopOut
+abbrev pub lifo : Queue → LifoPopStage → StepOut PopStage
 lifo q at = Going q (Lifo at)
 
 -- d, for the back b - 1 and the front f: below 0, 0, or above
@@ -31,7 +32,7 @@ decided b f =
 abbrev pub few_b : ℕ → ℕ → Bool
 few_b others capacity = nat_lt smallest capacity && nat_lt (others + 1) (capacity / 4)
 
-abbrev pub lifo_pop_of : Popper → LifoPopStage → Queue → List ℕ → PopOut
+abbrev pub lifo_pop_of : Popper → LifoPopStage → Queue → List ℕ → StepOut PopStage
 lifo_pop_of w LoadBack q cells = lifo q (LoadFront q.back)
 lifo_pop_of w (LoadFront b) q cells = pick (empty_b b q.front) (Ended q (nothing_for w)) (lifo q (StoreBack b))
 lifo_pop_of w (StoreBack b) q cells = lifo (with_back q (minus_of b 1)) (ReloadFront b)

@@ -6,15 +6,16 @@ ghost use Rattle.op_pop_lifo.specs.LifoPop.{lifo as lifo_of, decided as decidedO
 
 use cells::read;
 use index::Index;
-use op_shrink::{PopOut, nothing_for, others, reading};
+use op_shrink::{nothing_for, others, reading};
+use parts::out::StepOut;
 use parts::queue::Queue;
 use parts::stage::{LifoPopStage, PopStage, Popper};
 use ring::Ring;
 
-fn lifo(q: Queue, at: LifoPopStage) -> PopOut
+fn lifo(q: Queue, at: LifoPopStage) -> StepOut<PopStage>
     ensures { result ≡ lifo_of q at }
 {
-    PopOut::Going(q, PopStage::Lifo(at))
+    StepOut::Going(q, PopStage::Lifo(at))
 }
 
 // The back b - 1 is stored, and the front f loaded after it.
@@ -43,54 +44,55 @@ fn is_few(others: u64, capacity: usize) -> bool
 }
 
 // A step of a pop from the back of queue q.
-pub fn lifo_pop_step(popper: Popper, at: LifoPopStage, q: Queue, pool: &[u64]) -> PopOut
+#[tactic(auto, unfolding(index::specs::Index::same_b))]
+pub fn lifo_pop_step(popper: Popper, at: LifoPopStage, q: Queue, pool: &[u64]) -> StepOut<PopStage>
     ensures { result ≡ lifo_pop_of popper at q pool.now }
 {
     match at {
         LifoPopStage::LoadBack => {
             let b = q.back;
-            return lifo(q, LifoPopStage::LoadFront { b });
+            lifo(q, LifoPopStage::LoadFront { b })
         }
         LifoPopStage::LoadFront { b } => {
             if b.is_empty(q.front) {
-                return PopOut::Ended(q, nothing_for(popper));
+                return StepOut::Ended(q, nothing_for(popper));
             }
-            return lifo(q, LifoPopStage::StoreBack { b });
+            lifo(q, LifoPopStage::StoreBack { b })
         }
         LifoPopStage::StoreBack { b } => {
-            let mut r = q;
-            r.back = b.minus(1);
-            return lifo(r, LifoPopStage::ReloadFront { b });
+            let r = Queue {
+                back: b.minus(1),
+                ..q
+            };
+            lifo(r, LifoPopStage::ReloadFront { b })
         }
-        LifoPopStage::ReloadFront { b } => {
-            return lifo(q, decided(b, q.front));
-        }
+        LifoPopStage::ReloadFront { b } => lifo(q, decided(b, q.front)),
         LifoPopStage::RestoreBack { b } => {
-            let mut r = q;
-            r.back = b;
-            return PopOut::Ended(r, nothing_for(popper));
+            let r = Queue { back: b, ..q };
+            StepOut::Ended(r, nothing_for(popper))
         }
         LifoPopStage::ReadLast { b } => {
             let job = read(pool, q.ring, b.minus(1));
-            return lifo(q, LifoPopStage::Exchange { b, job });
+            lifo(q, LifoPopStage::Exchange { b, job })
         }
         LifoPopStage::Exchange { b, job } => {
             let f = b.minus(1);
-            if q.front.is_same(f) {
-                let mut r = q;
-                r.front = f.plus(1);
+            if q.front == f {
+                let r = Queue {
+                    front: f.plus(1),
+                    ..q
+                };
                 return lifo(r, LifoPopStage::RestoreBackWon { b, job });
             }
-            return lifo(q, LifoPopStage::RestoreBack { b });
+            lifo(q, LifoPopStage::RestoreBack { b })
         }
         LifoPopStage::RestoreBackWon { b, job } => {
-            let mut r = q;
-            r.back = b;
-            return reading(false, popper, job, r);
+            let r = Queue { back: b, ..q };
+            reading(false, popper, job, r)
         }
         LifoPopStage::Read { b, others } => {
             let job = read(pool, q.ring, b.minus(1));
-            return reading(is_few(others, q.ring.capacity), popper, job, q);
+            reading(is_few(others, q.ring.capacity), popper, job, q)
         }
     }
 }

@@ -1,10 +1,8 @@
 -- Push. Load back b; load front f: if b - f >= capacity, grow to twice (above the largest: answer 8). Write cell b; store back b + 1; done.
-use Rattle.std.specs.Prelude.{ℕ, List}
+use Rattle.std.specs.Prelude.{ℕ, List, Option, Some, None}
 use Rattle.base.specs.Tests.{pick}
 use Rattle.index.specs.declared.Index.{Index}
 use Rattle.index.specs.Index.{full_b, plus_of}
-use Rattle.ring.specs.declared.Capacity.{Capacity}
-use Rattle.ring.specs.declared.Capacity.TheVariants as C
 use Rattle.ring.specs.Capacity.{twice_of}
 use Rattle.cells.specs.Cells.{written_of}
 use Rattle.parts.specs.declared.queue.Queue.{Queue}
@@ -13,26 +11,25 @@ use Rattle.parts.specs.declared.stage.PushStage.{PushStage}
 use Rattle.parts.specs.declared.stage.PushStage.TheVariants.{LoadBack, LoadFront, Resize, Write, StoreBack}
 use Rattle.parts.specs.declared.answer.Answer.TheVariants as A
 use Rattle.parts.specs.declared.answer.Shortage.TheVariants.{TooLarge, NoRing}
-use Rattle.parts.specs.declared.out.Claim.{Claim}
 use Rattle.parts.specs.declared.out.Resized.{Resized}
 use Rattle.parts.specs.declared.out.Resized.TheVariants as R
-use Rattle.parts.specs.Out.{with_back}
+use Rattle.parts.specs.Out.{Claim, with_back}
 use Rattle.op_resize.specs.Resize.{resize_of}
-use Rattle.op_push.specs.declared.PushOut.{PushOut}
-use Rattle.op_push.specs.declared.PushOut.TheVariants.{Going, Ended}
+use Rattle.parts.specs.declared.out.StepOut.{StepOut}
+use Rattle.parts.specs.declared.out.StepOut.TheVariants.{Going, Ended}
 
-abbrev pub growing : Index → Queue → Capacity → PushOut
-growing b q (C.Of c) = Going q (Resize b (Z.LoadBack c))
-growing b q C.TooLarge = Ended q (A.GaveUp TooLarge)
+abbrev pub growing : Index → Queue → Option ℕ → StepOut PushStage
+growing b q (Some c) = Going q (Resize b (Z.LoadBack c))
+growing b q None = Ended q (A.GaveUp TooLarge)
 
 -- what a push does with a step of its resize
-abbrev pub grown : Index → Queue → Resized → PushOut
+abbrev pub grown : Index → Queue → Resized → StepOut PushStage
 grown b q (R.Stage z) = Going q (Resize b z)
 grown b q R.NoRing = Ended q (A.GaveUp NoRing)
 grown b q (R.Done r) = Going r (Write b)
 
 -- with the pool's cells
-abbrev pub push_of : ℕ → PushStage → Queue → Claim → List ℕ → PushOut × List ℕ
+abbrev pub push_of : ℕ → PushStage → Queue → Claim → List ℕ → StepOut PushStage × List ℕ
 push_of job LoadBack q g cells = (Going q (LoadFront q.back), cells)
 push_of job (LoadFront b) q g cells =
     (pick (full_b b q.front q.ring.capacity) (growing b q (twice_of q.ring.capacity)) (Going q (Write b)), cells)

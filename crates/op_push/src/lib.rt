@@ -8,69 +8,71 @@ use cells::write;
 use index::Index;
 use op_resize::resize_step;
 use parts::answer::{Answer, Shortage};
-use parts::out::{Claim, Resized};
+use parts::out::{Claim, Resized, StepOut};
 use parts::queue::Queue;
 use parts::stage::{PushStage, ResizeStage};
-use ring::{Capacity, Ring};
+use ring::Ring;
 
-// What a step of a push leaves: the queue, with the next stage or the answer.
-#[derive(Clone, Copy)]
-pub enum PushOut {
-    Going(Queue, PushStage),
-    Ended(Queue, Answer),
-}
-
-// The ring is full: grow it, unless that would be too large.
-fn growing(b: Index, q: Queue, to: Capacity) -> PushOut
+// The ring is full: grow it, unless that would be too large. A batch grows in the same way, on to stages of its own: one function for both would be handed
+// the stages by a closure, for which a public function would have to ask something of its callers.
+fn growing(b: Index, q: Queue, to: Option<usize>) -> StepOut<PushStage>
     ensures { result ≡ growingOf b q to }
 {
     match to {
-        Capacity::Of(capacity) => PushOut::Going(
+        Some(capacity) => StepOut::Going(
             q,
             PushStage::Resize {
                 b,
                 at: ResizeStage::LoadBack { capacity },
             },
         ),
-        Capacity::TooLarge => PushOut::Ended(q, Answer::GaveUp(Shortage::TooLarge)),
+        None => StepOut::Ended(q, Answer::GaveUp(Shortage::TooLarge)),
     }
 }
 
 // What a push does with a step of its resize.
-fn grown(b: Index, q: Queue, resized: Resized) -> PushOut
+fn grown(b: Index, q: Queue, resized: Resized) -> StepOut<PushStage>
     ensures { result ≡ grown_of b q resized }
 {
     match resized {
-        Resized::Stage(at) => PushOut::Going(q, PushStage::Resize { b, at }),
-        Resized::NoRing => PushOut::Ended(q, Answer::GaveUp(Shortage::NoRing)),
-        Resized::Done(r) => PushOut::Going(r, PushStage::Write { b }),
+        Resized::Stage(at) => StepOut::Going(q, PushStage::Resize { b, at }),
+        Resized::NoRing => StepOut::Ended(q, Answer::GaveUp(Shortage::NoRing)),
+        Resized::Done(r) => StepOut::Going(r, PushStage::Write { b }),
     }
 }
 
 // A step of a push of a job into queue q.
-pub fn push_step(job: u64, at: PushStage, q: Queue, claim: Claim, pool: &mut [u64]) -> PushOut
+pub fn push_step(
+    job: u64,
+    at: PushStage,
+    q: Queue,
+    claim: Claim,
+    pool: &mut [u64],
+) -> StepOut<PushStage>
     ensures { (result, pool.new) ≡ push_of job at q claim pool.old }
 {
     match at {
         PushStage::LoadBack => {
             let b = q.back;
-            PushOut::Going(q, PushStage::LoadFront { b })
+            StepOut::Going(q, PushStage::LoadFront { b })
         }
         PushStage::LoadFront { b } => {
             if b.is_full(q.front, q.ring.capacity) {
                 return growing(b, q, Ring::twice(q.ring.capacity));
             }
-            PushOut::Going(q, PushStage::Write { b })
+            StepOut::Going(q, PushStage::Write { b })
         }
         PushStage::Resize { b, at } => grown(b, q, resize_step(at, q, claim, pool)),
         PushStage::Write { b } => {
             write(pool, q.ring, b, job);
-            PushOut::Going(q, PushStage::StoreBack { b })
+            StepOut::Going(q, PushStage::StoreBack { b })
         }
         PushStage::StoreBack { b } => {
-            let mut r = q;
-            r.back = b.plus(1);
-            PushOut::Ended(r, Answer::Done)
+            let r = Queue {
+                back: b.plus(1),
+                ..q
+            };
+            StepOut::Ended(r, Answer::Done)
         }
     }
 }

@@ -6,16 +6,17 @@ ghost use Rattle.op_resize.specs.Resize.{copying as copyingOf, found_of, claimed
 
 use cells::copy;
 use index::Index;
-use parts::out::{Claim, Resized};
+use parts::out::{Claim, Claimed, Resized};
 use parts::queue::Queue;
 use parts::stage::ResizeStage;
 use ring::{PlaceNumber, Ring, RingNumber};
 
 // The next index is i: copy it, or swap where it is the back just loaded.
+#[tactic(auto, unfolding(index::specs::Index::same_b))]
 fn copying(b: Index, i: Index, ring: Ring) -> Resized
     ensures { result ≡ copyingOf b i ring }
 {
-    if i.is_same(b) {
+    if i == b {
         return Resized::Stage(ResizeStage::Swap { ring });
     }
     Resized::Stage(ResizeStage::Copy { b, i, ring })
@@ -25,23 +26,21 @@ fn copying(b: Index, i: Index, ring: Ring) -> Resized
 pub fn found(place: usize, places: usize, number: RingNumber) -> Claim
     ensures { result ≡ found_of place places number }
 {
-    if place < places {
-        if number.0 < u64::MAX {
-            return Claim::Got {
-                number,
-                place: PlaceNumber(place),
-            };
-        }
+    if place < places && number.0 < u64::MAX {
+        return Some(Claimed {
+            number,
+            place: PlaceNumber(place),
+        });
     }
-    Claim::Nothing
+    None
 }
 
 fn claimed(capacity: usize, b: Index, q: Queue, claim: Claim) -> Resized
     ensures { result ≡ claimed_of capacity b q claim }
 {
     match claim {
-        Claim::Nothing => Resized::NoRing,
-        Claim::Got { number, place } => copying(
+        None => Resized::NoRing,
+        Some(Claimed { number, place }) => copying(
             b,
             q.front,
             Ring {
@@ -67,10 +66,6 @@ pub fn resize_step(at: ResizeStage, q: Queue, claim: Claim, pool: &mut [u64]) ->
             copy(pool, q.ring, ring, i);
             copying(b, i.plus(1), ring)
         }
-        ResizeStage::Swap { ring } => {
-            let mut r = q;
-            r.ring = ring;
-            Resized::Done(r)
-        }
+        ResizeStage::Swap { ring } => Resized::Done(Queue { ring, ..q }),
     }
 }

@@ -12,12 +12,13 @@ use Rattle.parts.specs.declared.stage.Popper.{Popper}
 use Rattle.parts.specs.declared.stage.Popper.TheVariants as W
 use Rattle.parts.specs.declared.answer.Answer.{Answer}
 use Rattle.parts.specs.declared.answer.Answer.TheVariants.{Job, Nothing, Stolen}
-use Rattle.parts.specs.declared.out.Claim.{Claim}
 use Rattle.parts.specs.declared.out.Resized.{Resized}
 use Rattle.parts.specs.declared.out.Resized.TheVariants as R
 use Rattle.op_resize.specs.Resize.{resize_of}
-use Rattle.op_shrink.specs.declared.PopOut.{PopOut}
-use Rattle.op_shrink.specs.declared.PopOut.TheVariants.{Going, Ended}
+use Rattle.parts.specs.declared.out.StepOut.{StepOut}
+use Rattle.parts.specs.declared.out.StepOut.TheVariants.{Going, Ended}
+use Rattle.parts.specs.Out.{Claim}
+use Rattle.parts.specs.declared.stage.PopStage.{PopStage}
 
 -- a difference above 0, less one
 abbrev pub others_of : Index → Index → ℕ
@@ -33,14 +34,14 @@ job_for W.Pop job = Job job
 job_for W.BatchAndPop job = Stolen (Success job)
 
 -- the job is read: shrink to half first, or answer
-abbrev pub reading : Bool → Popper → ℕ → Queue → PopOut
+abbrev pub reading : Bool → Popper → ℕ → Queue → StepOut PopStage
 reading few w job q = pick few (Going q (Shrink job (LoadBack (q.ring.capacity / 2)))) (Ended q (job_for w job))
 
 -- what a pop does with a step of its resize: with no ring to be had it skips the shrink
-abbrev pub shrunk : Popper → ℕ → Queue → Resized → PopOut
+abbrev pub shrunk : Popper → ℕ → Queue → Resized → StepOut PopStage
 shrunk w job q (R.Stage z) = Going q (Shrink job z)
 shrunk w job q R.NoRing = Ended q (job_for w job)
 shrunk w job q (R.Done r) = Ended r (job_for w job)
 
-abbrev pub shrink_of : Popper → ℕ → ResizeStage → Queue → Claim → List ℕ → PopOut × List ℕ
+abbrev pub shrink_of : Popper → ℕ → ResizeStage → Queue → Claim → List ℕ → StepOut PopStage × List ℕ
 shrink_of w job z q g cells = (shrunk w job q (resize_of z q g cells).resized, (resize_of z q g cells).cells)

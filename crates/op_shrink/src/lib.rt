@@ -7,25 +7,17 @@ ghost use Rattle.op_shrink.specs.Shrink.{others_of, nothing_for, job_for, readin
 use index::Index;
 use op_resize::resize_step;
 use parts::answer::Answer;
-use parts::out::{Claim, Resized};
+use parts::out::{Claim, Resized, StepOut};
 use parts::queue::Queue;
 use parts::stage::{PopStage, Popper, ResizeStage};
 use ring::Ring;
 use steal::Steal;
 
-// What a step of a pop leaves: the queue, with the next stage or the answer.
-#[derive(Clone, Copy)]
-pub enum PopOut {
-    Going(Queue, PopStage),
-    Ended(Queue, Answer),
-}
-
 // The difference less one, of a queue that is not empty: how many stand beside one of its jobs.
 pub fn others(back: Index, front: Index) -> u64
     ensures { result ≡ others_of back front }
 {
-    let length = back.length(front);
-    if length == 0 { 0 } else { length - 1 }
+    back.length(front).saturating_sub(1)
 }
 
 // The answer of a pop that found nothing.
@@ -49,12 +41,12 @@ pub fn job_for(popper: Popper, job: u64) -> Answer
 }
 
 // The job is read: shrink to half first where few are left, or answer.
-pub fn reading(few: bool, popper: Popper, job: u64, q: Queue) -> PopOut
+pub fn reading(few: bool, popper: Popper, job: u64, q: Queue) -> StepOut<PopStage>
     ensures { result ≡ reading_of few popper job q }
 {
     if few {
         let capacity = Ring::half(q.ring.capacity);
-        return PopOut::Going(
+        return StepOut::Going(
             q,
             PopStage::Shrink {
                 job,
@@ -62,23 +54,17 @@ pub fn reading(few: bool, popper: Popper, job: u64, q: Queue) -> PopOut
             },
         );
     }
-    PopOut::Ended(q, job_for(popper, job))
+    StepOut::Ended(q, job_for(popper, job))
 }
 
 // What a pop does with a step of its resize. With no ring to be had it skips the shrink.
-fn shrunk(popper: Popper, job: u64, q: Queue, resized: Resized) -> PopOut
+fn shrunk(popper: Popper, job: u64, q: Queue, resized: Resized) -> StepOut<PopStage>
     ensures { result ≡ shrunkOf popper job q resized }
 {
     match resized {
-        Resized::Stage(at) => {
-            return PopOut::Going(q, PopStage::Shrink { job, at });
-        }
-        Resized::NoRing => {
-            return PopOut::Ended(q, job_for(popper, job));
-        }
-        Resized::Done(r) => {
-            return PopOut::Ended(r, job_for(popper, job));
-        }
+        Resized::Stage(at) => StepOut::Going(q, PopStage::Shrink { job, at }),
+        Resized::NoRing => StepOut::Ended(q, job_for(popper, job)),
+        Resized::Done(r) => StepOut::Ended(r, job_for(popper, job)),
     }
 }
 
@@ -90,7 +76,7 @@ pub fn shrink_step(
     q: Queue,
     claim: Claim,
     pool: &mut [u64],
-) -> PopOut
+) -> StepOut<PopStage>
     ensures { (result, pool.new) ≡ shrink_of popper job at q claim pool.old }
 {
     shrunk(popper, job, q, resize_step(at, q, claim, pool))

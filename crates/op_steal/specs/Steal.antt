@@ -10,10 +10,10 @@ use Rattle.parts.specs.declared.stage.StealStage.{StealStage}
 use Rattle.parts.specs.declared.stage.StealStage.TheVariants.{LoadFront, LoadBack, LoadRing, Read, ReloadRing, Exchange}
 use Rattle.parts.specs.declared.answer.Answer.TheVariants.{Stolen}
 use Rattle.parts.specs.Out.{with_front}
-use Rattle.op_steal.specs.declared.StealOut.{StealOut}
-use Rattle.op_steal.specs.declared.StealOut.TheVariants.{Going, Ended}
+use Rattle.parts.specs.declared.out.StepOut.{StepOut}
+use Rattle.parts.specs.declared.out.StepOut.TheVariants.{Going, Ended}
 
-abbrev pub steal_of : StealStage → Queue → List ℕ → StealOut
+abbrev pub steal_of : StealStage → Queue → List ℕ → StepOut StealStage
 steal_of LoadFront q cells = Going q (LoadBack q.front)
 steal_of (LoadBack f) q cells = pick (empty_b q.back f) (Ended q (Stolen Empty)) (Going q (LoadRing f))
 steal_of (LoadRing f) q cells = Going q (Read f q.ring)

@@ -1,5 +1,5 @@
 -- What a step leaves, and a queue with one part changed.
-use Rattle.std.specs.Prelude.{ℕ, List}
+use Rattle.std.specs.Prelude.{ℕ, List, Option}
 use Rattle.index.specs.declared.Index.{Index}
 use Rattle.ring.specs.declared.Ring.{Ring}
 use Rattle.parts.specs.declared.queue.Queue.{Queue}
@@ -7,7 +7,14 @@ use Rattle.parts.specs.declared.stage.Stage.{Stage}
 use Rattle.parts.specs.declared.stage.Stage.TheVariants.{Idle}
 use Rattle.parts.specs.declared.answer.Answer.{Answer}
 use Rattle.parts.specs.declared.answer.Answer.TheVariants.{Working}
+use Rattle.parts.specs.declared.out.Claimed.{Claimed}
+use Rattle.parts.specs.declared.out.StepOut.{StepOut}
+use Rattle.parts.specs.declared.out.StepOut.TheVariants.{Going, Ended}
 use Rattle.parts.specs.declared.out.Out.{Out}
+
+-- what a claim found
+abbrev pub Claim : Type 0
+Claim = Option Claimed
 
 -- what a step leaves of its queue and its thread, and the pool's cells
 pub record Left : Type 0 where
@@ -23,6 +30,11 @@ going q s = record { queue = q; stage = s; answer = Working }
 
 abbrev pub ended : Queue → Answer → Out
 ended q a = record { queue = q; stage = Idle; answer = a }
+
+-- what an operation's step left, as the thread's: at makes the thread's stage of the operation's
+abbrev pub out_of : {S : Type 0} → (S → Stage) → StepOut S → Out
+out_of at (Going q s) = going q (at s)
+out_of at (Ended q a) = ended q a
 
 abbrev pub with_front : Queue → Index → Queue
 with_front q f = record { flavor = q.flavor; front = f; back = q.back; ring = q.ring }

@@ -4,23 +4,23 @@ ghost use Rattle.parts.specs.Answers.{refusal_of, shortage_of};
 
 use steal::Steal;
 
-// Why a call was turned away: refusals 1 to 7, in order.
+// Why a call was turned away.
 #[derive(Clone, Copy)]
 pub enum Refusal {
-    PoolLength,
-    Counts,
-    Unsound,
-    NoSuch,
-    Busy,
-    Idle,
-    NoLimit,
+    PoolLength = 1,
+    Counts = 2,
+    Unsound = 3,
+    NoSuch = 4,
+    Busy = 5,
+    Idle = 6,
+    NoLimit = 7,
 }
 
-// Why a push or a batch ended with nothing done: answers 8 and 9, in order.
+// Why a push or a batch ended with nothing done.
 #[derive(Clone, Copy)]
 pub enum Shortage {
-    TooLarge,
-    NoRing,
+    TooLarge = 8,
+    NoRing = 9,
 }
 
 // What a call answers.
@@ -47,15 +47,7 @@ impl Refusal {
     pub fn number(self) -> u64
         ensures { result ≡ refusal_of self }
     {
-        match self {
-            Refusal::PoolLength => 1,
-            Refusal::Counts => 2,
-            Refusal::Unsound => 3,
-            Refusal::NoSuch => 4,
-            Refusal::Busy => 5,
-            Refusal::Idle => 6,
-            Refusal::NoLimit => 7,
-        }
+        self as u64
     }
 }
 
@@ -63,9 +55,6 @@ impl Shortage {
     pub fn number(self) -> u64
         ensures { result ≡ shortage_of self }
     {
-        match self {
-            Shortage::TooLarge => 8,
-            Shortage::NoRing => 9,
-        }
+        self as u64
     }
 }

@@ -1,4 +1,4 @@
-// What a claim, a step of a resize and a step leave.
+// What a claim finds, and what a step leaves: of a resize, of an operation, of a thread.
 ghost use Rattle.std.specs.Prelude.{◌≡◌};
 ghost use Rattle.parts.specs.Out.{going as goingOf, ended as ended_of};
 
@@ -7,15 +7,15 @@ use crate::queue::Queue;
 use crate::stage::{ResizeStage, Stage};
 use ring::{PlaceNumber, RingNumber};
 
-// What a claim of a ring found.
+// The ring that a claim found.
 #[derive(Clone, Copy)]
-pub enum Claim {
-    Nothing,
-    Got {
-        number: RingNumber,
-        place: PlaceNumber,
-    },
+pub struct Claimed {
+    pub number: RingNumber,
+    pub place: PlaceNumber,
 }
+
+// What a claim found, where the step makes one. Queue, claim and pool are passed one by one: a step takes those that it may look at, and no other.
+pub type Claim = Option<Claimed>;
 
 // What a step of a resize leaves: a further stage; no ring to be had; or the queue with its new ring.
 #[derive(Clone, Copy)]
@@ -23,6 +23,13 @@ pub enum Resized {
     Stage(ResizeStage),
     NoRing,
     Done(Queue),
+}
+
+// What a step of an operation leaves: the queue that it touched, with the operation's next stage or its answer. Neither is a failure, so it is no Result.
+#[derive(Clone, Copy)]
+pub enum StepOut<S> {
+    Going(Queue, S),
+    Ended(Queue, Answer),
 }
 
 // What a step leaves: the one queue that it touched, the thread's stage, the answer.

@@ -21,13 +21,15 @@ pub struct Queue {
 }
 
 // 0 FIFO, otherwise LIFO.
-pub fn flavor_of(number: u64) -> Flavor
-    ensures { result ≡ flavor_of number }
-{
-    if number == 0 {
-        return Flavor::Fifo;
+impl From<u64> for Flavor {
+    ghost from_gives = { λ number result. result ≡ flavor_of number };
+
+    fn from(number: u64) -> Flavor {
+        match number {
+            0 => Flavor::Fifo,
+            _ => Flavor::Lifo,
+        }
     }
-    Flavor::Lifo
 }
 
 pub fn zero_queue() -> Queue
@@ -50,5 +52,5 @@ pub fn zero_queue() -> Queue
 pub fn queue_of(queues: [Queue; 4], k: usize) -> Queue
     ensures { result ≡ queue_in queues k }
 {
-    if k < 4 { queues[k] } else { zero_queue() }
+    queues.get(k).copied().unwrap_or(zero_queue())
 }

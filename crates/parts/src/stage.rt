@@ -1,5 +1,5 @@
-// Where a thread stands in its operation, with what it remembers there. A variant is the step to be made next, named after its line in
-// the tables; b and f are a back and a front that were loaded.
+// Where a thread stands in its operation, with what it remembers there: data and no closure, since it is kept between calls, and as words.
+// A variant is the step to be made next, named after its line in the tables; b and f are a back and a front that were loaded.
 use index::Index;
 use ring::Ring;
 
@@ -91,22 +91,15 @@ pub struct Wanted {
     pub n: u64,
 }
 
-// The job that a batch and pop is to answer.
-#[derive(Clone, Copy)]
-pub enum InHand {
-    Nothing,
-    Job(u64),
-}
-
 // From the load of the source's ring on: the ring, held until the answer; the source's front f; how many jobs go to the own queue, from
-// its back b on.
+// its back b on. in_hand: the job that a batch and pop is to answer.
 #[derive(Clone, Copy)]
 pub struct Haul {
     pub ring: Ring,
     pub f: Index,
     pub n: u64,
     pub b: Index,
-    pub in_hand: InHand,
+    pub in_hand: Option<u64>,
 }
 
 // Taking from a FIFO source all at once. i: jobs copied so far.
@@ -185,6 +178,13 @@ pub enum OwnStage {
     Reserve(Wanted, ReserveStage),
     LoadBack { wanted: Wanted },
     Put(Haul, PutStage),
+}
+
+// The steps of a batch, on its source or on the thread's own queue.
+#[derive(Clone, Copy)]
+pub enum BatchStage {
+    Source(SourceStage),
+    Own(OwnStage),
 }
 
 // Of a steal, a length and a batch the first number is the queue that it names.

@@ -1,15 +1,8 @@
 // A ring that a thread keeps, and a place.
 ghost use Rattle.std.specs.Prelude.{◌≡◌};
-ghost use Rattle.places.specs.Places.{builds_in, both_build, keeps_in, kept_in};
+ghost use Rattle.places.specs.Places.{builds_in, both_build, keeps_in};
 
 use keeps::Kept;
-
-// What thread t keeps, of these, and nothing where there is none.
-pub(crate) fn kept_of(kept: [Kept; 4], t: usize) -> Kept
-    ensures { result ≡ kept_in kept t }
-{
-    if t < 4 { kept[t] } else { Kept::Nothing }
-}
 
 // A ring is being built in this place.
 pub(crate) fn builds_in(kept: Kept, place: usize) -> bool

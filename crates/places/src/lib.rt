@@ -1,6 +1,7 @@
 // Which places are in use, by the queues' rings and by the rings that the threads keep.
 #![tactic(auto)]
 
-pub mod apart;
-pub mod kept;
-pub mod used;
+mod apart;
+mod kept;
+pub mod rings;
+mod used;

@@ -3,41 +3,29 @@ ghost use Rattle.std.specs.Prelude.{◌≡◌};
 ghost use Rattle.parts.specs.Queues.{queue_in};
 ghost use Rattle.places.specs.Places.{kept_in, used_by_of, used_of, free_place_of};
 
-use crate::apart::place_of;
-use crate::kept::{keeps_in, kept_of};
-use keeps::Kept;
-use parts::queue::Queue;
+use crate::kept::keeps_in;
+use crate::rings::Rings;
 
-// Queue i's ring is in this place, or thread i keeps one there.
-fn used_by(queues: [Queue; 4], kept: [Kept; 4], place: usize, i: usize) -> bool
-    ensures { result ≡ used_by_of (queue_in queues) (kept_in kept) place i }
-{
-    (place_of(queues, i) == place) | keeps_in(kept_of(kept, i), place)
-}
-
-fn used(queues: [Queue; 4], kept: [Kept; 4], count: usize, place: usize) -> bool
-    ensures { result ≡ used_of (queue_in queues) (kept_in kept) count place }
-{
-    let mut i = 0;
-    while i < count {
-        if used_by(queues, kept, place, i) {
-            return true;
-        }
-        i += 1;
+impl Rings {
+    // Queue i's ring is in this place, or thread i keeps one there.
+    fn used_by(self, place: usize, i: usize) -> bool
+        ensures { result ≡ used_by_of (queue_in self.queues) (kept_in self.kept) place i }
+    {
+        (self.place_of(i) == place) | keeps_in(self.kept_of(i), place)
     }
-    false
-}
 
-// The lowest-numbered free place, and the place count where none is free.
-pub fn free_place(queues: [Queue; 4], kept: [Kept; 4], count: usize, places: usize) -> usize
-    ensures { result ≡ free_place_of (queue_in queues) (kept_in kept) count places }
-{
-    let mut place = 0;
-    while place < places {
-        if !used(queues, kept, count, place) {
-            return place;
-        }
-        place += 1;
+    fn used(self, place: usize) -> bool
+        ensures { result ≡ used_of (queue_in self.queues) (kept_in self.kept) self.count place }
+    {
+        (0..self.count).any(|i| self.used_by(place, i))
     }
-    places
+
+    // The lowest-numbered free place of so many, and their count where none is free.
+    pub fn free_place(self, places: usize) -> usize
+        ensures { result ≡ free_place_of (queue_in self.queues) (kept_in self.kept) self.count places }
+    {
+        (0..places)
+            .find(|&place| !self.used(place))
+            .unwrap_or(places)
+    }
 }

@@ -1,8 +1,8 @@
 // Plays a session, read from standard input, and writes a line for each call. Where a line is put on the page there is room for any, so none is cut off.
 #![tactic(auto)]
 
-ghost use Rattle.std.specs.Prelude.{◌≡◌, true, ◌⊎◌, ◌≤◌, length, take};
-ghost use Rattle.writing.specs.Writing.{page as page_of, whole};
+ghost use Rattle.std.specs.Prelude.{◌≡◌, ◌≤◌, length};
+ghost use Rattle.writing.specs.Writing.{whole_on};
 ghost use Rattle.line.specs.Line.{longest_line, Room};
 ghost use Rattle.player.specs.Player.{end_text};
 ghost use Rattle.stand.specs.Stand.{act_text};
@@ -13,101 +13,102 @@ use player::{Player, Turn, close};
 use sound::MOST_PLACES;
 use stand::Stand;
 use std::io::Read;
+use writing::Page;
 
-// A place on the page, and no more than its end.
-fn on_page(at: usize, page: &[u8]) -> usize
-    ensures within { result ≤ length page.now }
-    ensures cut { result ≡ length (take result page.now) }
-{
-    if at < page.len() { at } else { page.len() }
+// How far a session is played, and what it printed that is not yet written: the page has room for a line more.
+#[derive(Drop)]
+struct Game<'a, 'b> {
+    stand: Stand,
+    pool: &'a mut [u64],
+    page: Page<'b>,
+    ghost has_room: { Room page },
 }
 
-fn write_page(rt: &impl Print, page: &[u8], at: usize) -> bool {
-    let end = on_page(at, page);
-    rt.write_all(&page[..end]).is_ok()
+fn write_page(rt: &impl Print, page: &Page) -> bool {
+    let end = page.at.min(page.bytes.len());
+    rt.write_all(&page.bytes[..end]).is_ok()
 }
 
 // Writes a page that has no room for another line, and begins it anew.
-fn turn_page(rt: &impl Print, page: &[u8], at: usize) -> usize
-    requires { longest_line ≤ length page.now }
-    ensures { Room page.now result }
+fn turn_page(rt: &impl Print, page: &mut Page)
+    requires { longest_line ≤ length page.old.bytes.now }
+    ensures { Room page.new }
 {
-    if at <= page.len() - LONGEST_LINE {
-        return at;
+    if page.bytes.len() - LONGEST_LINE < page.at {
+        write_page(rt, page);
+        page.at = 0;
     }
-    write_page(rt, page, at);
-    0
 }
 
 // With room for a line, what is printed is put on the page whole; and so at the text's end.
-fn act_whole(stand: Stand, turn: Turn, pool: &mut [u64], page: &mut [u8]) -> Stand
-    requires { Room page.old stand.at }
-    ensures { page_of page.new result.at ≡ whole page.old stand.at (act_text stand turn pool.old) }
+fn act_whole(stand: Stand, turn: Turn, pool: &mut [u64], page: &mut Page) -> Stand
+    requires { Room page.old }
+    ensures { page.new ≡ whole_on page.old (act_text stand turn pool.old) }
 {
     stand.act(turn, pool, page)
 }
 
 #[tactic(auto, using(player::proofs::PlayerLaws::close_whole))]
-fn close_whole(player: Player, page: &mut [u8], at: usize) -> usize
-    requires { Room page.old at }
-    ensures { page_of page.new result ≡ whole page.old at (end_text player) }
+fn close_whole(player: Player, page: &mut Page)
+    requires { Room page.old }
+    ensures { page.new ≡ whole_on page.old (end_text player) }
 {
-    close(player, page, at)
+    close(player, page);
 }
 
-#[tactic(auto, using(player::proofs::PlayerLaws::listen_within, player::proofs::PlayerLaws::listen_some))]
-fn play_part(
-    rt: &impl Print,
-    mut stand: Stand,
-    part: &[u8],
-    pool: &mut [u64],
-    page: &mut [u8],
-) -> Stand
-    requires { Room page.old stand.at }
-    ensures { (result.is_over ≡ true) ⊎ Room page.new result.at }
-{
-    let mut from = 0;
-    while from < part.len() {
-        let turn = stand.player.listen(&part[from..]);
-        from += turn.used;
-        stand = act_whole(stand, turn, pool, page);
-        if stand.is_over {
-            return stand;
+impl Game<'_, '_> {
+    #[tactic(auto, using(line::proofs::LineLaws::still_long))]
+    fn act(&mut self, rt: &impl Print, turn: Turn) {
+        self.stand = act_whole(self.stand, turn, self.pool, &mut self.page);
+        turn_page(rt, &mut self.page);
+    }
+
+    #[tactic(auto, using(line::proofs::LineLaws::still_long))]
+    fn close(&mut self, rt: &impl Print) {
+        close_whole(self.stand.player, &mut self.page);
+        turn_page(rt, &mut self.page);
+    }
+
+    #[tactic(auto, using(player::proofs::PlayerLaws::listen_within, player::proofs::PlayerLaws::listen_some))]
+    fn play(&mut self, rt: &impl Print, part: &[u8]) {
+        let mut rest = part;
+        while !rest.is_empty() && !self.stand.is_over {
+            let turn = self.stand.player.listen(rest);
+            rest = &rest[turn.used..];
+            self.act(rt, turn);
         }
-        stand.at = turn_page(rt, page, stand.at);
     }
-    stand
-}
 
-// At the text's end its last number may yet say something; then a session that is cut off is none.
-fn play_end(rt: &impl Print, mut stand: Stand, pool: &mut [u64], page: &mut [u8])
-    requires { Room page.old stand.at }
-{
-    stand = act_whole(stand, stand.player.finish(), pool, page);
-    if stand.is_over {
-        write_page(rt, page, stand.at);
-        return;
+    // At the text's end its last number may yet say something; then a session that is cut off is none.
+    fn end(&mut self, rt: &impl Print) {
+        if !self.stand.is_over {
+            self.act(rt, self.stand.player.finish());
+        }
+        if !self.stand.is_over {
+            self.close(rt);
+        }
+        write_page(rt, &self.page);
     }
-    let at = turn_page(rt, page, stand.at);
-    let end = close_whole(stand.player, page, at);
-    write_page(rt, page, end);
 }
 
 // A proved loop has to end, and nothing says that a text does: so it has a number of turns that no run uses up. A read that fails ends the text.
 fn main(rt: HostRuntime) {
     let mut text = [0u8; 65536];
-    let mut page = [0u8; 65536];
+    let mut bytes = [0u8; 65536];
     let mut pool = [0u64; MOST_PLACES * PLACE_CELLS];
-    let mut stand = Stand::new();
+    let mut game = Game {
+        stand: Stand::new(),
+        pool: &mut pool,
+        page: Page {
+            bytes: &mut bytes,
+            at: 0,
+        },
+    };
     for _ in 0..u64::MAX {
         let n = rt.stdin().read(&mut text).unwrap_or(0);
-        if n == 0 {
-            play_end(&rt, stand, &mut pool, &mut page);
-            return;
-        }
-        stand = play_part(&rt, stand, &text[..n], &mut pool, &mut page);
-        if stand.is_over {
-            write_page(&rt, &page, stand.at);
+        game.play(&rt, &text[..n]);
+        if n == 0 || game.stand.is_over {
+            game.end(&rt);
             return;
         }
     }

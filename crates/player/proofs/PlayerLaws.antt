@@ -1,13 +1,14 @@
 -- What is known of a turn: how much of a part of the text it uses, all of it at most, and of a part that is not empty some; and how much it prints, a
 -- line at most.
-use Rattle.std.proofs.Common.{◌≡◌, ℕ, ◌<◌, ◌≤◌, List, [], length, refl, arith}
+use Rattle.std.proofs.Common.{◌≡◌, ℕ, ◌<◌, ◌≤◌, List, [], length, refl, ap, arith}
 use Rattle.base.specs.Tests.{by_test}
 use Rattle.reading.specs.declared.Reader.{Reader}
 use Rattle.reading.specs.declared.Word.{Word}
 use Rattle.reading.specs.declared.Word.TheVariants.{Nothing, Number, Wrong}
 use Rattle.reading.specs.Reading.{read_of}
 use Rattle.reading.proofs.ReadingLaws.{used_within, used_some}
-use Rattle.writing.specs.Writing.{whole}
+use Rattle.writing.specs.declared.Page.{Page}
+use Rattle.writing.specs.Writing.{holding, put_on, whole_on}
 use Rattle.writing.proofs.WritingLaws.{put_whole}
 use Rattle.parts.specs.declared.queue.Queue.{Queue}
 use Rattle.parts.specs.declared.answer.Answer.{Answer}
@@ -54,9 +55,13 @@ end_short p =
     by_test (λ (text : List ℕ). length text ≤ longest_line) (whole_b p.session.awaiting) [] (bad_text place) (λ t. omega arith) (λ t. bad_short place)
 
 -- where there is room for a line, no byte of it is left out
-pub show_whole : (t : Turn) (a : Answer) (n : ℕ) (queues : List Queue) (bytes : List ℕ) (at : ℕ) → Room bytes at →
-    show_of t a n queues bytes at ≡ whole bytes at (turn_text t a n queues)
-show_whole t a n queues bytes at h = put_whole bytes at (turn_text t a n queues) (omega (arith, turn_short t a n queues))
+all_of_it : (page : Page) (text : List ℕ) → length text ≤ longest_line → Room page → put_on page text ≡ whole_on page text
+unfolding put_on
+all_of_it page text short h = ap (holding page) (put_whole page.bytes.now page.at text (omega arith))
 
-pub close_whole : (p : Player) (bytes : List ℕ) (at : ℕ) → Room bytes at → close_of p bytes at ≡ whole bytes at (end_text p)
-close_whole p bytes at h = put_whole bytes at (end_text p) (omega (arith, end_short p))
+pub show_whole : (t : Turn) (a : Answer) (n : ℕ) (queues : List Queue) (page : Page) → Room page →
+    show_of t a n queues page ≡ whole_on page (turn_text t a n queues)
+show_whole t a n queues page h = all_of_it page (turn_text t a n queues) (turn_short t a n queues) h
+
+pub close_whole : (p : Player) (page : Page) → Room page → close_of p page ≡ whole_on page (end_text p)
+close_whole p page h = all_of_it page (end_text p) (end_short p) h

@@ -5,7 +5,8 @@ use Rattle.reading.specs.declared.Reader.{Reader}
 use Rattle.reading.specs.declared.Word.{Word}
 use Rattle.reading.specs.declared.Word.TheVariants as W
 use Rattle.reading.specs.Reading.{new_reader, read_of, end_of}
-use Rattle.writing.specs.Writing.{Page, put}
+use Rattle.writing.specs.declared.Page.{Page}
+use Rattle.writing.specs.Writing.{put_on}
 use Rattle.parts.specs.declared.queue.Queue.{Queue}
 use Rattle.parts.specs.declared.answer.Answer.{Answer}
 use Rattle.parts.specs.declared.answer.Answer.TheVariants.{Working, Done, Job, Nothing, Stolen, Moved, Length, GaveUp, Refused}
@@ -63,8 +64,8 @@ said_text S.Wrong start a n queues = bad_text start
 abbrev pub turn_text : Turn → Answer → ℕ → List Queue → List ℕ
 turn_text t a n queues = said_text t.said t.player.reader.start a n queues
 
-abbrev pub show_of : Turn → Answer → ℕ → List Queue → List ℕ → ℕ → Page
-show_of t a n queues bytes at = put bytes at (turn_text t a n queues)
+abbrev pub show_of : Turn → Answer → ℕ → List Queue → Page → Page
+show_of t a n queues page = put_on page (turn_text t a n queues)
 
 -- the program ends at a setup that is not done, and at what is no session
 abbrev pub ends_b : Said → Answer → Bool
@@ -77,5 +78,5 @@ ends_b S.Wrong a = true
 abbrev pub end_text : Player → List ℕ
 end_text p = pick (whole_b p.session.awaiting) [] (bad_text p.reader.place)
 
-abbrev pub close_of : Player → List ℕ → ℕ → Page
-close_of p bytes at = put bytes at (end_text p)
+abbrev pub close_of : Player → Page → Page
+close_of p page = put_on page (end_text p)

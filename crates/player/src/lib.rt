@@ -1,8 +1,7 @@
 // A session heard from its text: what the next number says, and what is printed then.
-#![tactic(auto)]
+#![tactic(auto, using(writing::proofs::WritingLaws::put_none))]
 
 ghost use Rattle.std.specs.Prelude.{◌≡◌};
-ghost use Rattle.writing.specs.Writing.{page as page_of};
 ghost use Rattle.player.specs.Player.{new_player, heard as heard_of, listen_of, finish_of, cells_of, done_b, show_of, ends_b, close_of};
 
 use cells::PLACE_CELLS;
@@ -10,8 +9,9 @@ use line::{put_bad, put_call, put_setup};
 use parts::answer::Answer;
 use parts::queue::Queue;
 use reading::{Reader, Word};
-use session::grammar::{Said, Session};
+use session::grammar::{Said, Session, Told};
 use sound::MOST_PLACES;
+use writing::Page;
 
 #[derive(Clone, Copy)]
 pub struct Player {
@@ -41,34 +41,24 @@ impl Player {
         ensures { result ≡ heard_of self reader word used }
     {
         let session = self.session;
-        match word {
-            Word::Nothing => {
-                return Turn {
-                    player: Player { reader, session },
-                    said: Said::Nothing,
-                    used,
-                };
-            }
-            Word::Number(number) => {
-                let told = session.hear(number);
-                let next = told.session;
-                let said = told.said;
-                return Turn {
-                    player: Player {
-                        reader,
-                        session: next,
-                    },
-                    said,
-                    used,
-                };
-            }
-            Word::Wrong => {
-                return Turn {
-                    player: Player { reader, session },
-                    said: Said::Wrong,
-                    used,
-                };
-            }
+        let told = match word {
+            Word::Nothing => Told {
+                session,
+                said: Said::Nothing,
+            },
+            Word::Number(number) => session.hear(number),
+            Word::Wrong => Told {
+                session,
+                said: Said::Wrong,
+            },
+        };
+        Turn {
+            player: Player {
+                reader,
+                session: told.session,
+            },
+            said: told.said,
+            used,
         }
     }
 
@@ -77,12 +67,8 @@ impl Player {
     pub fn listen(self, part: &[u8]) -> Turn
         ensures { result ≡ listen_of self part.now }
     {
-        let reader = self.reader;
-        let read = reader.next(part);
-        let heard = read.heard;
-        let next = heard.reader;
-        let word = heard.word;
-        self.heard(next, word, read.used)
+        let read = self.reader.next(part);
+        self.heard(read.heard.reader, read.heard.word, read.used)
     }
 
     // The text is at its end.
@@ -90,9 +76,7 @@ impl Player {
     pub fn finish(self) -> Turn
         ensures { result ≡ finish_of self }
     {
-        let reader = self.reader;
-        let word = reader.end();
-        self.heard(reader, word, 0)
+        self.heard(self.reader, self.reader.end(), 0)
     }
 
     // How many cells the machine is lent.
@@ -110,48 +94,23 @@ impl Player {
 fn is_done(answer: Answer) -> bool
     ensures { result ≡ done_b answer }
 {
-    match answer {
-        Answer::Working => false,
-        Answer::Done => true,
-        Answer::Job(_) => false,
-        Answer::Nothing => false,
-        Answer::Stolen(_) => false,
-        Answer::Moved => false,
-        Answer::Length {
-            difference: _,
-            length: _,
-        } => false,
-        Answer::GaveUp(_) => false,
-        Answer::Refused(_) => false,
-    }
+    matches!(answer, Answer::Done)
 }
 
 impl Turn {
     // What is printed: a line for each call, for a setup that is not done, and for what is no session.
-    pub fn show(
-        self,
-        answer: Answer,
-        count: usize,
-        queues: [Queue; 4],
-        page: &mut [u8],
-        at: usize,
-    ) -> usize
-        ensures { page_of page.new result ≡ show_of self answer count queues page.old at }
+    pub fn show(self, answer: Answer, count: usize, queues: [Queue; 4], page: &mut Page)
+        ensures { page.new ≡ show_of self answer count queues page.old }
     {
-        let said = self.said;
-        match said {
-            Said::Nothing => at,
-            Said::Setup { queues: _ } => {
-                if is_done(answer) {
-                    return at;
+        match self.said {
+            Said::Nothing => {}
+            Said::Setup { .. } => {
+                if !is_done(answer) {
+                    put_setup(page, answer);
                 }
-                put_setup(page, at, answer)
             }
-            Said::Call {
-                thread: _,
-                request: _,
-            } => put_call(page, at, count, queues, answer),
-            Said::Wrong => put_bad(page, at, self.player.reader.start),
+            Said::Call { .. } => put_call(page, count, queues, answer),
+            Said::Wrong => put_bad(page, self.player.reader.start),
         }
     }
 
@@ -159,26 +118,19 @@ impl Turn {
     pub fn ends(self, answer: Answer) -> bool
         ensures { result ≡ ends_b self.said answer }
     {
-        let said = self.said;
-        match said {
-            Said::Nothing => false,
-            Said::Setup { queues: _ } => !is_done(answer),
-            Said::Call {
-                thread: _,
-                request: _,
-            } => false,
+        match self.said {
+            Said::Nothing | Said::Call { .. } => false,
+            Said::Setup { .. } => !is_done(answer),
             Said::Wrong => true,
         }
     }
 }
 
 // What the program does at the text's end, after what its last number said: a session that is cut off is none.
-pub fn close(player: Player, page: &mut [u8], at: usize) -> usize
-    ensures { page_of page.new result ≡ close_of player page.old at }
+pub fn close(player: Player, page: &mut Page)
+    ensures { page.new ≡ close_of player page.old }
 {
-    let session = player.session;
-    if session.is_whole() {
-        return at;
+    if !player.session.is_whole() {
+        put_bad(page, player.reader.place);
     }
-    put_bad(page, at, player.reader.place)
 }

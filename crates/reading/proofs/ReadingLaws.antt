@@ -1,25 +1,11 @@
--- What is known of reading: a digit more, a byte more, and a part of the text read byte by byte.
-use Rattle.std.proofs.Common.{◌≡◌, ℕ, ◌+◌, ◌*◌, ◌^◌, ◌<◌, ◌≤◌, List, [], ◌∷◌, length, get_or, drop, sym, ap, ◌∙◌, add-one, arith, drop_of_length-le, drop-cons, le-ltb, lt-ltb}
-use Rattle.reading.specs.declared.Within.{Within}
+-- What is known of reading: a byte more, and a part of the text read byte by byte.
+use Rattle.std.proofs.Common.{◌≡◌, ℕ, ◌+◌, ◌<◌, ◌≤◌, List, [], ◌∷◌, length, get_or, drop, sym, ap, ◌∙◌, add-one, arith, drop_of_length-le, drop-cons}
 use Rattle.reading.specs.declared.Reader.{Reader}
 use Rattle.reading.specs.declared.Word.{Word}
 use Rattle.reading.specs.declared.Read.{Read}
 use Rattle.reading.specs.declared.Word.TheVariants.{Nothing, Number, Wrong}
 use Rattle.reading.specs.declared.Heard.{Heard}
-use Rattle.reading.specs.declared.Grown.TheVariants.{To, TooLarge}
-use Rattle.reading.specs.Reading.{class_of, grown_of, heard_in, heard_of, unless_word, read_from}
-
-pub grown_to : (n d : ℕ) → n * 10 + d < 2 ^ 64 → grown_of n d ≡ To (n * 10 + d)
-unfolding grown_of
-grown_to n d h = rw (lt-ltb _ _ h)
-
-pub grown_too_large : (n d : ℕ) → 2 ^ 64 ≤ n * 10 + d → grown_of n d ≡ TooLarge
-unfolding grown_of
-grown_too_large n d h = rw (le-ltb _ _ h)
-
-pub heard_in_lem : (w : Within) (r : Reader) (b : ℕ) → r.within ≡ w → heard_of r b ≡ heard_in w r (class_of b)
-unfolding heard_of
-heard_in_lem w r b e = rw (e)
+use Rattle.reading.specs.Reading.{heard_of, unless_word, read_from}
 
 -- nothing is left to read
 pub read_all : (r : Reader) (part : List ℕ) (i : ℕ) → length part ≤ i → read_from r (drop i part) i ≡ record { heard = record { reader = r; word = Nothing }; used = i }

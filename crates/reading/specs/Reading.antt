@@ -1,6 +1,6 @@
 -- Numbers in a text. A number is a row of digits, below 2^64, up to white space, `#` or the text's end; a comment goes from `#` to the end of
 -- its line; any other byte, and a number that is too large, make the number wrong.
-use Rattle.std.specs.Prelude.{ℕ, ◌+◌, ◌-◌, ◌*◌, ◌%◌, ◌^◌, Bool, ◌&&◌, List, [], ◌∷◌, ◌==◌, nat_le, nat_lt}
+use Rattle.std.specs.Prelude.{ℕ, ◌+◌, ◌-◌, ◌*◌, ◌%◌, ◌^◌, Bool, ◌&&◌, List, [], ◌∷◌, ◌==◌, nat_le, nat_lt, Option, Some, None}
 use Rattle.base.specs.Tests.{pick}
 use Rattle.reading.specs.declared.Within.{Within}
 use Rattle.reading.specs.declared.Within.TheVariants as W
@@ -11,8 +11,6 @@ use Rattle.reading.specs.declared.Word.{Word}
 use Rattle.reading.specs.declared.Word.TheVariants as R
 use Rattle.reading.specs.declared.Heard.{Heard}
 use Rattle.reading.specs.declared.Read.{Read}
-use Rattle.reading.specs.declared.Grown.{Grown}
-use Rattle.reading.specs.declared.Grown.TheVariants.{To, TooLarge}
 
 -- `0` to `9`; the white space on a line: tab, vertical tab, form feed, carriage return, space
 abbrev pub digit_b : ℕ → Bool
@@ -25,8 +23,8 @@ unfoldable pub class_of : ℕ → Class
 class_of b =
     pick (b == 10) LineEnd (pick (b == 32) Space (pick (b == 35) Hash (pick (blank_b b) Space (pick (digit_b b) (Digit (b - 48)) Other))))
 
-unfoldable pub grown_of : ℕ → ℕ → Grown
-grown_of n d = pick (nat_lt (n * 10 + d) (2 ^ 64)) (To (n * 10 + d)) TooLarge
+unfoldable pub grown_of : ℕ → ℕ → Option ℕ
+grown_of n d = pick (nat_lt (n * 10 + d) (2 ^ 64)) (Some (n * 10 + d)) None
 
 abbrev pub new_reader : Reader
 new_reader = record { within = W.Space; place = 0; start = 0; value = 0 }
@@ -38,9 +36,9 @@ after r w start value word = record {
   word = word;
 }
 
-abbrev pub grew : Reader → ℕ → Grown → Heard
-grew r start (To n) = after r W.Number start n R.Nothing
-grew r start TooLarge = after r W.Number start 0 R.Wrong
+abbrev pub grew : Reader → ℕ → Option ℕ → Heard
+grew r start (Some n) = after r W.Number start n R.Nothing
+grew r start None = after r W.Number start 0 R.Wrong
 
 abbrev pub in_space : Reader → Class → Heard
 in_space r LineEnd = after r W.Space 0 0 R.Nothing

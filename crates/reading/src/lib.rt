@@ -2,7 +2,7 @@
 #![tactic(auto)]
 
 ghost use Rattle.std.specs.Prelude.{◌≡◌};
-ghost use Rattle.reading.specs.Reading.{digit_b, blank_b, class_of, grown_of, new_reader, after as after_of, grew, in_space, in_number, in_comment, heard_of, end_of, read_of};
+ghost use Rattle.reading.specs.Reading.{class_of, grown_of, new_reader, after as after_of, grew, in_space, in_number, in_comment, heard_of, end_of, read_of};
 
 // What the reader stands in, between two bytes.
 #[derive(Clone, Copy)]
@@ -30,7 +30,8 @@ pub enum Class {
     Other,
 }
 
-// What a byte, or the text's end, ends: nothing; a number; a number that is wrong.
+// What a byte, or the text's end, ends: nothing; a number; a number that is wrong. Each user tells all three apart, which an Option in a Result would
+// only nest.
 #[derive(Clone, Copy)]
 pub enum Word {
     Nothing,
@@ -51,65 +52,26 @@ pub struct Read {
     pub used: usize,
 }
 
-// A number with one digit more, where it stays below 2^64.
-#[derive(Clone, Copy)]
-pub enum Grown {
-    To(u64),
-    TooLarge,
-}
-
-fn wide(x: u8) -> u64
-    ensures { result ≡ x }
-{
-    x as u64
-}
-
-fn is_digit(byte: u8) -> bool
-    ensures { result ≡ digit_b byte }
-{
-    (b'0' <= byte) & (byte <= b'9')
-}
-
-fn is_blank(byte: u8) -> bool
-    ensures { result ≡ blank_b byte }
-{
-    (9 <= byte) & (byte <= 13)
-}
-
 #[tactic(auto, unfolding(crate::specs::Reading::class_of))]
 pub fn class_of(byte: u8) -> Class
     ensures { result ≡ class_of byte }
 {
-    if byte == b'\n' {
-        return Class::LineEnd;
+    match byte {
+        b'\n' => Class::LineEnd,
+        b' ' => Class::Space,
+        b'#' => Class::Hash,
+        b'\t'..=b'\r' => Class::Space,
+        b'0'..=b'9' => Class::Digit(u64::from(byte - b'0')),
+        _ => Class::Other,
     }
-    if byte == b' ' {
-        return Class::Space;
-    }
-    if byte == b'#' {
-        return Class::Hash;
-    }
-    if is_blank(byte) {
-        return Class::Space;
-    }
-    if is_digit(byte) {
-        return Class::Digit(wide(byte) - 48);
-    }
-    Class::Other
 }
 
+// The number with one digit more, where it stays below 2^64.
 #[tactic(auto, unfolding(crate::specs::Reading::grown_of))]
-pub fn with_digit(value: u64, digit: u64) -> Grown
+pub fn with_digit(value: u64, digit: u64) -> Option<u64>
     ensures { result ≡ grown_of value digit }
 {
-    if u64::MAX / 10 < value {
-        return Grown::TooLarge;
-    }
-    let ten = value * 10;
-    if u64::MAX - ten < digit {
-        return Grown::TooLarge;
-    }
-    Grown::To(ten + digit)
+    value.checked_mul(10)?.checked_add(digit)
 }
 
 impl Reader {
@@ -128,7 +90,7 @@ impl Reader {
     fn after(self, within: Within, start: u64, value: u64, word: Word) -> Heard
         ensures { result ≡ after_of self within start value word }
     {
-        let place = std::num::wrapping_add_u64(self.place, 1);
+        let place = self.place.wrapping_add(1);
         let reader = Reader {
             within,
             place,
@@ -143,8 +105,8 @@ impl Reader {
         ensures { result ≡ grew self start (grown_of before digit) }
     {
         match with_digit(before, digit) {
-            Grown::To(value) => self.after(Within::Number, start, value, Word::Nothing),
-            Grown::TooLarge => self.after(Within::Number, start, 0, Word::Wrong),
+            Some(value) => self.after(Within::Number, start, value, Word::Nothing),
+            None => self.after(Within::Number, start, 0, Word::Wrong),
         }
     }
 
@@ -152,8 +114,7 @@ impl Reader {
         ensures { result ≡ in_space self class }
     {
         match class {
-            Class::LineEnd => self.after(Within::Space, 0, 0, Word::Nothing),
-            Class::Space => self.after(Within::Space, 0, 0, Word::Nothing),
+            Class::LineEnd | Class::Space => self.after(Within::Space, 0, 0, Word::Nothing),
             Class::Hash => self.after(Within::Comment, 0, 0, Word::Nothing),
             Class::Digit(digit) => self.digit(self.place, 0, digit),
             Class::Other => self.after(Within::Number, self.place, 0, Word::Wrong),
@@ -165,8 +126,12 @@ impl Reader {
         ensures { result ≡ in_number self class }
     {
         match class {
-            Class::LineEnd => self.after(Within::Space, self.start, 0, Word::Number(self.value)),
-            Class::Space => self.after(Within::Space, self.start, 0, Word::Number(self.value)),
+            Class::LineEnd | Class::Space => self.after(
+                Within::Space,
+                self.start,
+                0,
+                Word::Number(self.value),
+            ),
             Class::Hash => self.after(Within::Comment, self.start, 0, Word::Number(self.value)),
             Class::Digit(digit) => self.digit(self.start, self.value, digit),
             Class::Other => self.after(Within::Number, self.start, 0, Word::Wrong),
@@ -178,10 +143,7 @@ impl Reader {
     {
         match class {
             Class::LineEnd => self.after(Within::Space, 0, 0, Word::Nothing),
-            Class::Space => self.after(Within::Comment, 0, 0, Word::Nothing),
-            Class::Hash => self.after(Within::Comment, 0, 0, Word::Nothing),
-            Class::Digit(_) => self.after(Within::Comment, 0, 0, Word::Nothing),
-            Class::Other => self.after(Within::Comment, 0, 0, Word::Nothing),
+            _ => self.after(Within::Comment, 0, 0, Word::Nothing),
         }
     }
 
@@ -191,8 +153,7 @@ impl Reader {
         ensures { result ≡ heard_of self byte }
     {
         let class = class_of(byte);
-        let within = self.within;
-        match within {
+        match self.within {
             Within::Space => self.in_space(class),
             Within::Number => self.in_number(class),
             Within::Comment => self.in_comment(class),
@@ -203,30 +164,23 @@ impl Reader {
     pub fn end(self) -> Word
         ensures { result ≡ end_of self }
     {
-        let within = self.within;
-        match within {
-            Within::Space => Word::Nothing,
+        match self.within {
             Within::Number => Word::Number(self.value),
-            Within::Comment => Word::Nothing,
+            Within::Space | Within::Comment => Word::Nothing,
         }
     }
 
     // Reads a part of the text up to the byte that ends a number, or all of it.
+    #[tactic(auto, using(crate::proofs::ReadingLaws::read_all, crate::proofs::ReadingLaws::read_on, crate::proofs::ReadingLaws::read_number, crate::proofs::ReadingLaws::read_wrong))]
     pub fn next(self, part: &[u8]) -> Read
         ensures { result ≡ read_of self part.now }
     {
         let mut reader = self;
-        let mut used = 0;
-        while used < part.len() {
-            let heard = reader.byte(part[used]);
-            used += 1;
-            let word = heard.word;
-            match word {
-                Word::Nothing => {
-                    reader = heard.reader;
-                }
-                Word::Number(_) => return Read { heard, used },
-                Word::Wrong => return Read { heard, used },
+        for (i, &byte) in part.iter().enumerate() {
+            let heard = reader.byte(byte);
+            match heard.word {
+                Word::Nothing => reader = heard.reader,
+                Word::Number(_) | Word::Wrong => return Read { heard, used: i + 1 },
             }
         }
         Read {
@@ -234,7 +188,7 @@ impl Reader {
                 reader,
                 word: Word::Nothing,
             },
-            used,
+            used: part.len(),
         }
     }
 }

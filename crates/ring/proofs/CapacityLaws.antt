@@ -1,10 +1,9 @@
 -- The capacities: what an allowed one is, twice and half of one, and that the smallest sufficient one is a single number, which `holding_of` finds.
-use Rattle.std.proofs.Common.{◌≡◌, ℕ, zero, suc, ◌*◌, ◌/◌, ◌^◌, ◌<◌, ◌≤◌, Bool, true, false, ◌&&◌, eqb, leb, ◌⊎◌, refl, ap, ◌∙◌, inl, inr, ⊎_elim, le_trans, le_refl, mul_assoc, mul_comm, le_antisymm, pow-suc, arith, lit≤, pow_mono, eq-eqb, eqb-true, le-leb, leb-false, leb-true}
+use Rattle.std.proofs.Common.{◌≡◌, ℕ, zero, suc, ◌*◌, ◌/◌, ◌^◌, ◌<◌, ◌≤◌, Bool, true, false, ◌&&◌, eqb, leb, ◌⊎◌, refl, ap, ◌∙◌, inl, inr, ⊎_elim, le_trans, le_refl, mul_assoc, mul_comm, le_antisymm, pow-suc, arith, lit≤, pow_mono, eq-eqb, eqb-true, le-leb, leb-false, leb-true, Some, None, max}
 use lib.Count.{ones, ones_in}
 use borrow.Author.Tests.{lt-leb}
 use Rattle.base.specs.Tests.{pick, le_or_lt, both}
 use Rattle.base.proofs.Powers.{power_of, power_ones}
-use Rattle.ring.specs.declared.Capacity.TheVariants.{Of, TooLarge}
 use Rattle.ring.specs.Capacity.{smallest, largest, allowed_b, twice_of, doubled, holding_of, Least}
 
 -- ---- powers of two
@@ -32,7 +31,7 @@ ones_largest : ones largest ≡ 1
 unfolding ones ones_in
 ones_largest = refl
 
-pub smallest_power : (k : ℕ) × (smallest ≡ 2 ^ k)
+smallest_power : (k : ℕ) × (smallest ≡ 2 ^ k)
 smallest_power = power_of smallest ones_smallest
 
 pub largest_power : (k : ℕ) × (largest ≡ 2 ^ k)
@@ -79,16 +78,16 @@ allowed_word c e =
 
 -- ---- twice and half
 
-pub twice_below : (c : ℕ) → 2 * c ≤ largest → twice_of c ≡ Of (2 * c)
+pub twice_below : (c : ℕ) → 2 * c ≤ largest → twice_of c ≡ Some (2 * c)
 unfolding twice_of
 twice_below c h = rw (le-leb (2 * c) largest h)
 
-pub twice_above : (c : ℕ) → largest < 2 * c → twice_of c ≡ TooLarge
+pub twice_above : (c : ℕ) → largest < 2 * c → twice_of c ≡ None
 unfolding twice_of
 twice_above c h = rw (lt-leb (2 * c) largest h)
 
 -- of an allowed capacity below the largest
-pub twice_allowed : (c : ℕ) → allowed_b c ≡ true → c < largest → (twice_of c ≡ Of (2 * c)) × (allowed_b (2 * c) ≡ true)
+pub twice_allowed : (c : ℕ) → allowed_b c ≡ true → c < largest → (twice_of c ≡ Some (2 * c)) × (allowed_b (2 * c) ≡ true)
 twice_allowed c e h =
     let a = allowed_is c e in
     let k = a.power.0 in
@@ -100,7 +99,7 @@ twice_allowed c e h =
     let v : 2 * c ≤ largest = omega arith in
     (twice_below c v, is_allowed (2 * c) (record { power = (suc k, omega arith); low = omega arith; high = v }))
 
-pub twice_largest : twice_of largest ≡ TooLarge
+pub twice_largest : twice_of largest ≡ None
 twice_largest = twice_above largest (omega arith)
 
 -- of an allowed capacity above the smallest
@@ -128,12 +127,21 @@ least_one n c d p q = le_antisymm (no_more n c d p q) (no_more n d c q p)
         rw e (p.least q.power.0 (rw e at q.low) (rw e at q.holds))
 
 -- what a search finds that starts at the smallest and never doubles what is enough
-pub least_of : (n k c : ℕ) → c ≡ 2 ^ k → smallest ≤ c → n ≤ c → (c ≡ smallest) ⊎ (c < 2 * n) → Least n c
+least_of : (n k c : ℕ) → c ≡ 2 ^ k → smallest ≤ c → n ≤ c → (c ≡ smallest) ⊎ (c < 2 * n) → Least n c
 least_of n k c e l h w = record {
   power = (k, e);
   low = l;
   holds = h;
   least = λ j lo hi. ⊎_elim (λ p. omega arith) (λ p. rw e (power_below k j (let q : 2 ^ k < 2 * n = rw e at p in omega arith))) w;
+}
+
+-- and the next power of two is, from n or the smallest on
+pub next_least : (n c : ℕ) → (k : ℕ) × (c ≡ 2 ^ k) → max n smallest ≤ c → c / 2 < max 1 (max n smallest) → Least n c
+next_least n c power above half = record {
+  power = power;
+  low = omega arith;
+  holds = omega arith;
+  least = λ j lo hi. let b : 2 ^ power.0 < 2 * 2 ^ j = rw (← power.1) (omega arith) in rw power.1 (power_below power.0 j b);
 }
 
 doubled_least : (f n k c : ℕ) → c ≡ 2 ^ k → smallest ≤ c → n ≤ c * 2 ^ f → (c ≡ smallest) ⊎ (c < 2 * n) → Least n (doubled f c n)
@@ -148,7 +156,7 @@ doubled_least (suc f) n k c e l h w = go (λ l' h' w'. doubled_least f n (suc k)
         let p = leb-false n c t in
         more (omega arith) (rw (mul_assoc c 2 (2 ^ f), mul_comm 2 (2 ^ f), ← pow-suc 2 f) h) (inr (omega arith))
 
-pub holding_least : (n : ℕ) → n ≤ largest → (c : ℕ) × (holding_of n ≡ Of c) × Least n c
+pub holding_least : (n : ℕ) → n ≤ largest → (c : ℕ) × (holding_of n ≡ Some c) × Least n c
 unfolding holding_of
 holding_least n h =
     let l = smallest_power in (
@@ -157,10 +165,10 @@ holding_least n h =
       doubled_least 58 n l.0 smallest l.1 (le_refl smallest) (le_trans h (lit≤ tt)) (inl refl),
     )
 
-pub holding_is : (n c : ℕ) → n ≤ largest → Least n c → holding_of n ≡ Of c
-holding_is n c h p = let q = holding_least n h in q.1 ∙ ap Of (least_one n q.0 c q.2 p)
+pub holding_is : (n c : ℕ) → n ≤ largest → Least n c → holding_of n ≡ Some c
+holding_is n c h p = let q = holding_least n h in q.1 ∙ ap Some (least_one n q.0 c q.2 p)
 
-pub holding_over : (n : ℕ) → largest < n → holding_of n ≡ TooLarge
+pub holding_over : (n : ℕ) → largest < n → holding_of n ≡ None
 unfolding holding_of
 holding_over n h = rw (lt-leb n largest h)
 
@@ -173,11 +181,11 @@ least_allowed n c h p =
     is_allowed c (record { power = p.power; low = p.low; high = omega arith })
 
 -- so whatever `holding_of` answers holds n and is allowed
-pub holding_allowed : (n c : ℕ) → holding_of n ≡ Of c → Least n c × (allowed_b c ≡ true)
+pub holding_allowed : (n c : ℕ) → holding_of n ≡ Some c → Least n c × (allowed_b c ≡ true)
 holding_allowed n c e = ⊎_elim
     (λ (h : n ≤ largest).
     let q = holding_least n h in
-    let s : Of q.0 ≡ Of c = (let r = q.1 in cc) in
+    let s : Some q.0 ≡ Some c = (let r = q.1 in cc) in
     let t : q.0 ≡ c = cc in
     let p : Least n c = rw t at q.2 in
     (p, least_allowed n c h p))

@@ -6,11 +6,11 @@ ghost use Rattle.ring.specs.Capacity.{allowed_b, twice_of, holding_of};
 ghost use Rattle.ring.specs.Number.{next_number};
 
 // Counts up, and is never used again.
-#[derive(Clone, Copy)]
+#[derive(Clone, Copy, PartialEq, Eq)]
 pub struct RingNumber(pub u64);
 
 // Which place of the pool. Used again.
-#[derive(Clone, Copy)]
+#[derive(Clone, Copy, PartialEq, Eq)]
 pub struct PlaceNumber(pub usize);
 
 #[derive(Clone, Copy)]
@@ -20,19 +20,12 @@ pub struct Ring {
     pub capacity: usize,
 }
 
-// A capacity to resize to.
-#[derive(Clone, Copy)]
-pub enum Capacity {
-    Of(usize),
-    TooLarge,
-}
-
 impl RingNumber {
     // The number to give after this one.
     pub fn next(self) -> RingNumber
         ensures { result ≡ next_number self }
     {
-        RingNumber(std::num::wrapping_add_u64(self.0, 1))
+        RingNumber(self.0.wrapping_add(1))
     }
 }
 
@@ -46,23 +39,17 @@ impl Ring {
     pub fn allowed(capacity: usize) -> bool
         ensures { result ≡ allowed_b capacity }
     {
-        if usize::count_ones(capacity) != 1 {
-            return false;
-        }
-        if capacity < Ring::SMALLEST {
-            return false;
-        }
-        capacity <= Ring::LARGEST
+        capacity.is_power_of_two() && Ring::SMALLEST <= capacity && capacity <= Ring::LARGEST
     }
 
-    // Twice a capacity.
-    pub fn twice(capacity: usize) -> Capacity
+    // Twice a capacity, unless that is too large.
+    pub fn twice(capacity: usize) -> Option<usize>
         ensures { result ≡ twice_of capacity }
     {
         if Ring::LARGEST / 2 < capacity {
-            return Capacity::TooLarge;
+            return None;
         }
-        Capacity::Of(2 * capacity)
+        Some(2 * capacity)
     }
 
     // Half a capacity.
@@ -76,25 +63,20 @@ impl Ring {
     pub fn holds(capacity: usize, length: u64, more: u64) -> bool
         ensures { result ≡ nat_le (length + more) capacity }
     {
-        let c = capacity as u64;
-        if c < length {
-            return false;
+        match length.checked_add(more) {
+            Some(jobs) => jobs <= capacity as u64,
+            None => false,
         }
-        more <= c - length
     }
 
-    // The smallest capacity that holds so many jobs and so many more, found by doubling.
-    pub fn holding(length: u64, more: u64) -> Capacity
+    // The smallest capacity that holds so many jobs and so many more, unless that is too large.
+    pub fn holding(length: u64, more: u64) -> Option<usize>
         ensures { result ≡ holding_of (length + more) }
     {
         if !Ring::holds(Ring::LARGEST, length, more) {
-            return Capacity::TooLarge;
+            return None;
         }
         let need = (length + more) as usize;
-        let mut c = Ring::SMALLEST;
-        while c < need {
-            c = c * 2;
-        }
-        Capacity::Of(c)
+        Some(need.max(Ring::SMALLEST).next_power_of_two())
     }
 }

@@ -1,13 +1,12 @@
 -- What the numbers of a session say: the place count, the queue count, and a flavour for each queue (0 FIFO, 1 LIFO); then calls of four numbers:
 -- thread, kind, source queue, operand. Unused numbers are 0. All flavours are read before the setup is judged.
-use Rattle.std.specs.Prelude.{ℕ, ◌+◌, ◌%◌, ◌^◌, Bool, true, false, not, ◌&&◌, List, [], ◌∷◌, ◌==◌, nat_lt, slice_index, slice_set}
+use Rattle.std.specs.Prelude.{ℕ, ◌+◌, ◌%◌, ◌^◌, Bool, true, false, not, ◌&&◌, List, [], ◌∷◌, ◌==◌, nat_lt, slice_index, slice_set, Result, Ok, Err}
 use Rattle.base.specs.Tests.{pick}
 use Rattle.parts.specs.declared.queue.Flavor.{Flavor}
 use Rattle.sound.specs.Sound.{most_queues}
 use Rattle.parts.specs.Queues.{flavor_of}
 use Rattle.kinds.specs.declared.Kind.{Kind}
-use Rattle.kinds.specs.declared.KindRead.{KindRead}
-use Rattle.kinds.specs.declared.KindRead.TheVariants as K
+use Rattle.kinds.specs.declared.UnknownKind.{UnknownKind}
 use Rattle.kinds.specs.Kinds.{kind_of, source_b, operand_b, request_of}
 use Rattle.session.specs.declared.grammar.Awaiting.{Awaiting}
 use Rattle.session.specs.declared.grammar.Awaiting.TheVariants as A
@@ -50,9 +49,9 @@ with_flavor s i n = pick (nat_lt i most_queues) (record { awaiting = s.awaiting;
 abbrev pub flavors_read : Session → ℕ → ℕ → Told
 flavors_read s k i = pick (nat_lt i k) (to s (A.Flavor k i) S.Nothing) (to s A.Thread (S.Setup k))
 
-abbrev pub kind_heard : Session → ℕ → KindRead → Told
-kind_heard s t (K.Kind kind) = to s (A.Source t kind) S.Nothing
-kind_heard s t K.Wrong = wrong s
+abbrev pub kind_heard : Session → ℕ → Result Kind UnknownKind → Told
+kind_heard s t (Ok kind) = to s (A.Source t kind) S.Nothing
+kind_heard s t (Err e) = wrong s
 
 -- an unused number that is not 0
 abbrev pub unused_b : ℕ → Bool → Bool

@@ -4,8 +4,8 @@ ghost use Rattle.kinds.specs.Kinds.{kind_of};
 ghost use Rattle.session.specs.Grammar.{flavors_of, new_session, whole_b, to as toOf, wrong as wrongOf, with_places, with_flavor, flavors_read, kind_heard, unused_b, flavor_heard, source_heard, operand_heard, hear_of};
 
 use gate::Request;
-use kinds::{Kind, KindRead, has_operand, has_source, kind_of, request_of};
-use parts::queue::{Flavor, flavor_of};
+use kinds::{Kind, has_operand, has_source, request_of};
+use parts::queue::Flavor;
 use sound::MOST_QUEUES;
 
 // Which number comes next, and those that came before it.
@@ -32,7 +32,8 @@ pub enum Awaiting {
     },
 }
 
-// places: the place count, once it is heard. flavors: 0 FIFO, 1 LIFO; those of queues past the last that there may be are not kept.
+// places: the place count, once it is heard. flavors: 0 FIFO, 1 LIFO; those of queues past the last that there may be are not kept. They stay numbers, since
+// what `hear` promises holds of a session with any.
 #[derive(Clone, Copy)]
 pub struct Session {
     pub awaiting: Awaiting,
@@ -40,7 +41,7 @@ pub struct Session {
     pub flavors: [u64; 4],
 }
 
-// What a number completes: nothing; a setup; a call; or it is wrong.
+// What a number completes: nothing; a setup; a call; or it is wrong. Each user tells all four apart.
 #[derive(Clone, Copy)]
 pub enum Said {
     Nothing,
@@ -59,7 +60,7 @@ pub struct Told {
 fn is_unused(number: u64, used: bool) -> bool
     ensures { result ≡ unused_b number used }
 {
-    (number != 0) & !used
+    number != 0 && !used
 }
 
 impl Session {
@@ -77,45 +78,23 @@ impl Session {
     pub fn all_flavors(self) -> [Flavor; 4]
         ensures { result ≡ flavors_of self }
     {
-        let given = self.flavors;
-        [
-            flavor_of(given[0]),
-            flavor_of(given[1]),
-            flavor_of(given[2]),
-            flavor_of(given[3]),
-        ]
+        self.flavors.map(Flavor::from)
     }
 
     // At a call's beginning: the text may end here.
     pub fn is_whole(self) -> bool
         ensures { result ≡ whole_b self.awaiting }
     {
-        let awaiting = self.awaiting;
-        match awaiting {
-            Awaiting::Places => false,
-            Awaiting::Queues => false,
-            Awaiting::Flavor { queues: _, read: _ } => false,
-            Awaiting::Thread => true,
-            Awaiting::Kind { thread: _ } => false,
-            Awaiting::Source { thread: _, kind: _ } => false,
-            Awaiting::Operand {
-                thread: _,
-                kind: _,
-                source: _,
-            } => false,
-        }
+        matches!(self.awaiting, Awaiting::Thread)
     }
 
     fn to(self, awaiting: Awaiting, said: Said) -> Told
         ensures { result ≡ toOf self awaiting said }
     {
-        let flavors = self.flavors;
-        let session = Session {
-            awaiting,
-            places: self.places,
-            flavors,
-        };
-        Told { session, said }
+        Told {
+            session: Session { awaiting, ..self },
+            said,
+        }
     }
 
     fn wrong(self) -> Told
@@ -142,11 +121,10 @@ impl Session {
         )
     }
 
-    fn with_places(mut self, places: u64) -> Session
+    fn with_places(self, places: u64) -> Session
         ensures { result ≡ with_places self places }
     {
-        self.places = places;
-        self
+        Session { places, ..self }
     }
 
     fn with_flavor(mut self, read: u64, number: u64) -> Session
@@ -165,16 +143,16 @@ impl Session {
         if 1 < number {
             return self.wrong();
         }
-        let next = std::num::wrapping_add_u64(read, 1);
+        let next = read.wrapping_add(1);
         self.with_flavor(read, number).flavors_read(queues, next)
     }
 
     fn hear_kind(self, thread: u64, number: u64) -> Told
         ensures { result ≡ kind_heard self thread (kind_of number) }
     {
-        match kind_of(number) {
-            KindRead::Kind(kind) => self.to(Awaiting::Source { thread, kind }, Said::Nothing),
-            KindRead::Wrong => self.wrong(),
+        match Kind::try_from(number) {
+            Ok(kind) => self.to(Awaiting::Source { thread, kind }, Said::Nothing),
+            Err(_) => self.wrong(),
         }
     }
 
@@ -206,11 +184,11 @@ impl Session {
     }
 
     // One number more.
+    #[tactic(auto, unfolding(crate::specs::Grammar::hear_of))]
     pub fn hear(self, number: u64) -> Told
         ensures { result ≡ hear_of self number }
     {
-        let awaiting = self.awaiting;
-        match awaiting {
+        match self.awaiting {
             Awaiting::Places => self.with_places(number).to(Awaiting::Queues, Said::Nothing),
             Awaiting::Queues => self.flavors_read(number, 0),
             Awaiting::Flavor { queues, read } => self.hear_flavor(queues, read, number),

@@ -82,7 +82,19 @@ with_operation o x w = slots o x w.kind w.step w.f w.b w.n w.i w.end w.job w.far
 
 abbrev pub same_stage_b : StageWords → StageWords → Bool
 same_stage_b v w =
-    (v.operation == w.operation && (v.number == w.number && (v.kind == w.kind && v.step == w.step))) &&
-    ((v.f == w.f && (v.b == w.b && (v.n == w.n && v.i == w.i))) &&
-    ((v.end == w.end && (v.job == w.job && (v.far == w.far && v.hand == w.hand))) &&
-    (v.held == w.held && (v.ring == w.ring && (v.place == w.place && v.capacity == w.capacity)))))
+    (v.operation == w.operation) &&
+    ((v.number == w.number) &&
+    ((v.kind == w.kind) &&
+    ((v.step == w.step) &&
+    ((v.f == w.f) &&
+    ((v.b == w.b) &&
+    ((v.n == w.n) &&
+    ((v.i == w.i) &&
+    ((v.end == w.end) &&
+    ((v.job == w.job) &&
+    ((v.far == w.far) &&
+    ((v.hand == w.hand) &&
+    ((v.held == w.held) &&
+    ((v.ring == w.ring) &&
+    ((v.place == w.place) &&
+    v.capacity == w.capacity))))))))))))))

@@ -1,4 +1,4 @@
-// What soundness asks of the counts, of queues and of a stage.
+// What soundness asks of the counts, of queues and of a stage. The two counts come one by one, as the machine has them: most of these look at one alone.
 #![tactic(auto)]
 
 ghost use Rattle.std.specs.Prelude.{◌≡◌};
@@ -37,12 +37,5 @@ pub fn queue_sound(places: usize, q: Queue) -> bool
 pub fn queues_sound(count: usize, places: usize, queues: [Queue; 4]) -> bool
     ensures { result ≡ queues_sound_of count places (queue_in queues) }
 {
-    let mut i = 0;
-    while i < count {
-        if !queue_sound(places, queue_of(queues, i)) {
-            return false;
-        }
-        i += 1;
-    }
-    true
+    (0..count).all(|i| queue_sound(places, queue_of(queues, i)))
 }

@@ -28,13 +28,9 @@ fn resize_sound(at: ResizeStage) -> bool
 {
     match at {
         ResizeStage::LoadBack { capacity } => Ring::allowed(capacity),
-        ResizeStage::LoadFront { capacity, b: _ } => Ring::allowed(capacity),
-        ResizeStage::Copy {
-            b: _,
-            i: _,
-            ring: _,
-        } => true,
-        ResizeStage::Swap { ring: _ } => true,
+        ResizeStage::LoadFront { capacity, .. } => Ring::allowed(capacity),
+        ResizeStage::Copy { .. } => true,
+        ResizeStage::Swap { .. } => true,
     }
 }
 
@@ -43,10 +39,10 @@ fn push_sound(at: PushStage) -> bool
 {
     match at {
         PushStage::LoadBack => true,
-        PushStage::LoadFront { b: _ } => true,
-        PushStage::Resize { b: _, at } => resize_sound(at),
-        PushStage::Write { b: _ } => true,
-        PushStage::StoreBack { b: _ } => true,
+        PushStage::LoadFront { .. } => true,
+        PushStage::Resize { at, .. } => resize_sound(at),
+        PushStage::Write { .. } => true,
+        PushStage::StoreBack { .. } => true,
     }
 }
 
@@ -56,7 +52,7 @@ fn pop_sound(at: PopStage) -> bool
     match at {
         PopStage::Fifo(_) => true,
         PopStage::Lifo(_) => true,
-        PopStage::Shrink { job: _, at } => resize_sound(at),
+        PopStage::Shrink { at, .. } => resize_sound(at),
     }
 }
 
@@ -86,11 +82,11 @@ fn one_sound(haul: Haul, at: OneStage) -> bool
     ensures { result ≡ one_sound haul at }
 {
     match at {
-        OneStage::ExchangeFirst { job: _ } => haul_sound(haul, 0),
+        OneStage::ExchangeFirst { .. } => haul_sound(haul, 0),
         OneStage::ReloadBack { i } => haul_sound(haul, i),
         OneStage::Read { i } => haul_sound(haul, i),
-        OneStage::ReloadRing { i, job: _ } => haul_sound(haul, i),
-        OneStage::Exchange { i, job: _ } => haul_sound(haul, i),
+        OneStage::ReloadRing { i, .. } => haul_sound(haul, i),
+        OneStage::Exchange { i, .. } => haul_sound(haul, i),
     }
 }
 
@@ -108,13 +104,9 @@ fn source_sound(at: SourceStage) -> bool
     ensures { result ≡ source_sound at }
 {
     match at {
-        SourceStage::LoadFront { kind: _, others: _ } => true,
-        SourceStage::LoadBack {
-            kind: _,
-            others: _,
-            f: _,
-        } => true,
-        SourceStage::LoadRing { wanted, b: _ } => wanted_sound(wanted),
+        SourceStage::LoadFront { .. } => true,
+        SourceStage::LoadBack { .. } => true,
+        SourceStage::LoadRing { wanted, .. } => wanted_sound(wanted),
         SourceStage::Take(haul, stage) => take_sound(haul, stage),
     }
 }
@@ -124,7 +116,7 @@ fn reserve_sound(at: ReserveStage) -> bool
 {
     match at {
         ReserveStage::LoadBack => true,
-        ReserveStage::LoadFront { b: _ } => true,
+        ReserveStage::LoadFront { .. } => true,
         ReserveStage::Resize(stage) => resize_sound(stage),
     }
 }
@@ -133,9 +125,9 @@ fn put_sound(haul: Haul, at: PutStage) -> bool
     ensures { result ≡ put_sound haul at }
 {
     match at {
-        PutStage::WriteCopy { i, job: _ } => haul_sound(haul, i),
-        PutStage::WriteOne { i, job: _ } => haul_sound(haul, i),
-        PutStage::Swap { x, at: _ } => haul_sound(haul, x),
+        PutStage::WriteCopy { i, .. } => haul_sound(haul, i),
+        PutStage::WriteOne { i, .. } => haul_sound(haul, i),
+        PutStage::Swap { x, .. } => haul_sound(haul, x),
         PutStage::StoreBack => haul_sound(haul, 0),
     }
 }

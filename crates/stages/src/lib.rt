@@ -1,4 +1,4 @@
-// What a stage tells of its next step.
+// What a stage tells of its next step. Each type of stage has a function of its own, as it has a definition.
 #![tactic(auto)]
 
 ghost use Rattle.std.specs.Prelude.{◌≡◌};
@@ -21,36 +21,21 @@ pub fn touched(stage: Stage, own: usize) -> usize
 pub fn is_idle(stage: Stage) -> bool
     ensures { result ≡ idle_b stage }
 {
-    match stage {
-        Stage::Idle => true,
-        _ => false,
-    }
+    matches!(stage, Stage::Idle)
 }
 
 fn resize_claims(at: ResizeStage) -> bool
     ensures { result ≡ resize_claims at }
 {
-    match at {
-        ResizeStage::LoadBack { capacity: _ } => false,
-        ResizeStage::LoadFront { capacity: _, b: _ } => true,
-        ResizeStage::Copy {
-            b: _,
-            i: _,
-            ring: _,
-        } => false,
-        ResizeStage::Swap { ring: _ } => false,
-    }
+    matches!(at, ResizeStage::LoadFront { .. })
 }
 
 fn push_claims(at: PushStage) -> bool
     ensures { result ≡ push_claims at }
 {
     match at {
-        PushStage::LoadBack => false,
-        PushStage::LoadFront { b: _ } => false,
-        PushStage::Resize { b: _, at } => resize_claims(at),
-        PushStage::Write { b: _ } => false,
-        PushStage::StoreBack { b: _ } => false,
+        PushStage::Resize { at, .. } => resize_claims(at),
+        _ => false,
     }
 }
 
@@ -58,9 +43,8 @@ fn pop_claims(at: PopStage) -> bool
     ensures { result ≡ pop_claims at }
 {
     match at {
-        PopStage::Fifo(_) => false,
-        PopStage::Lifo(_) => false,
-        PopStage::Shrink { job: _, at } => resize_claims(at),
+        PopStage::Shrink { at, .. } => resize_claims(at),
+        _ => false,
     }
 }
 
@@ -68,9 +52,8 @@ fn reserve_claims(at: ReserveStage) -> bool
     ensures { result ≡ reserve_claims at }
 {
     match at {
-        ReserveStage::LoadBack => false,
-        ReserveStage::LoadFront { b: _ } => false,
         ReserveStage::Resize(stage) => resize_claims(stage),
+        _ => false,
     }
 }
 
@@ -79,8 +62,7 @@ fn own_claims(at: OwnStage) -> bool
 {
     match at {
         OwnStage::Reserve(_, stage) => reserve_claims(stage),
-        OwnStage::LoadBack { wanted: _ } => false,
-        OwnStage::Put(_, _) => false,
+        _ => false,
     }
 }
 

@@ -1,7 +1,7 @@
 -- How far a session is played, and what the program does at what was said.
 use Rattle.std.specs.Prelude.{ℕ, Bool, false, List, ◌++◌, length, take, drop, nat_lt}
 use Rattle.base.specs.Tests.{pick}
-use Rattle.writing.specs.Writing.{Page}
+use Rattle.writing.specs.declared.Page.{Page}
 use Rattle.parts.specs.declared.answer.Answer.TheVariants.{Working}
 use Rattle.machine.specs.declared.state.Machine.{Machine}
 use Rattle.machine.specs.State.{After, after, leaves}
@@ -9,27 +9,27 @@ use Rattle.machine.specs.Setup.{zero_machine, setup_of}
 use Rattle.machine.specs.Call.{call_of}
 use Rattle.session.specs.declared.grammar.Said.{Said}
 use Rattle.session.specs.declared.grammar.Said.TheVariants.{Nothing, Setup, Call, Wrong}
-use Rattle.session.specs.Grammar.{flavors_of}
 use Rattle.player.specs.declared.Player.{Player}
 use Rattle.player.specs.declared.Turn.{Turn}
 use Rattle.player.specs.Player.{new_player, cells_of, turn_text, show_of, ends_b}
 use Rattle.stand.specs.declared.Stand.{Stand}
+use Rattle.session.specs.Grammar.{flavors_of}
 
-abbrev pub stood : Player → Machine → ℕ → Bool → Stand
-stood p m at over = record { player = p; machine = m; at = at; is_over = over }
+abbrev pub stood : Player → Machine → Bool → Stand
+stood p m over = record { player = p; machine = m; is_over = over }
 
 -- before the session: the machine of zeros, which a refused setup leaves
 abbrev pub new_stand : Stand
-new_stand = stood new_player zero_machine 0 false
+new_stand = stood new_player zero_machine false
 
--- what the program has then: how far the session is played, the pool's cells and the page's bytes
+-- what the program has then: how far the session is played, the pool's cells and the page
 pub record Scene : Type 0 where
   pub stand : Stand
   pub cells : List ℕ
-  pub bytes : List ℕ
+  pub page : Page
 
-abbrev pub scene : Stand → List ℕ → List ℕ → Scene
-scene s cells bytes = record { stand = s; cells = cells; bytes = bytes }
+abbrev pub scene : Stand → List ℕ → Page → Scene
+scene s cells page = record { stand = s; cells = cells; page = page }
 
 -- the player lends the machine so many cells of the pool, and no more than it has
 abbrev pub lent_of : Player → List ℕ → ℕ
@@ -54,14 +54,13 @@ abbrev pub asked_in : Stand → Turn → List ℕ → After
 asked_in s t cells = ask_in (lent_of t.player cells) s.machine t cells
 
 -- then a line is printed, and the program ends or goes on
-abbrev pub shown_at : Turn → After → Page → Scene
-shown_at t a p = scene (stood t.player a.called.machine p.at (ends_b t.said a.called.answer)) a.cells p.bytes
+abbrev pub shown : Turn → After → Page → Scene
+shown t a page =
+    scene (stood t.player a.called.machine (ends_b t.said a.called.answer)) a.cells
+    (show_of t a.called.answer a.called.machine.queue_count a.called.machine.queues page)
 
-abbrev pub shown : Turn → After → List ℕ → ℕ → Scene
-shown t a bytes at = shown_at t a (show_of t a.called.answer a.called.machine.queue_count a.called.machine.queues bytes at)
-
-abbrev pub act_of : Stand → Turn → List ℕ → List ℕ → Scene
-act_of s t cells bytes = shown t (asked_in s t cells) bytes s.at
+abbrev pub act_of : Stand → Turn → List ℕ → Page → Scene
+act_of s t cells page = shown t (asked_in s t cells) page
 
 -- that line
 abbrev pub after_text : Turn → After → List ℕ

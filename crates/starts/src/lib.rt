@@ -20,12 +20,6 @@ fn popping(flavor: Flavor) -> PopStage
     }
 }
 
-fn less_one(limit: u64) -> u64
-    ensures { result ≡ limit - 1 }
-{
-    if limit == 0 { 0 } else { limit - 1 }
-}
-
 fn first_pop(popper: Popper, flavor: Flavor) -> Stage
     ensures { result ≡ Stage.Pop popper (poppingOf flavor) }
 {
@@ -35,7 +29,7 @@ fn first_pop(popper: Popper, flavor: Flavor) -> Stage
 fn first_batch(kind: BatchKind, source: usize, limit: u64) -> Stage
     ensures { result ≡ Stage.BatchSource source (SourceStage.LoadFront kind (limit - 1)) }
 {
-    let others = less_one(limit);
+    let others = limit.saturating_sub(1);
     Stage::BatchSource(source, SourceStage::LoadFront { kind, others })
 }
 
@@ -44,29 +38,21 @@ pub fn first_stage(flavor: Flavor, own: usize, operation: Operation) -> Stage
     ensures { result ≡ first_stage flavor own operation }
 {
     match operation {
-        Operation::Push(job) => {
-            return Stage::Push(job, PushStage::LoadBack);
-        }
-        Operation::Pop => {
-            return first_pop(Popper::Pop, flavor);
-        }
-        Operation::Length(queue) => {
-            return Stage::Length(queue, LengthStage::LoadBack);
-        }
-        Operation::Steal(source) => {
-            return Stage::Steal(source, StealStage::LoadFront);
-        }
+        Operation::Push(job) => Stage::Push(job, PushStage::LoadBack),
+        Operation::Pop => first_pop(Popper::Pop, flavor),
+        Operation::Length(queue) => Stage::Length(queue, LengthStage::LoadBack),
+        Operation::Steal(source) => Stage::Steal(source, StealStage::LoadFront),
         Operation::Batch { source, limit } => {
             if source == own {
                 return Stage::OwnBatch(LengthStage::LoadBack);
             }
-            return first_batch(BatchKind::Batch, source, limit);
+            first_batch(BatchKind::Batch, source, limit)
         }
         Operation::BatchAndPop { source, limit } => {
             if source == own {
                 return first_pop(Popper::BatchAndPop, flavor);
             }
-            return first_batch(BatchKind::BatchAndPop, source, limit);
+            first_batch(BatchKind::BatchAndPop, source, limit)
         }
     }
 }

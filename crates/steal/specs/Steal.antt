@@ -1,10 +1,8 @@
 -- What the answers to an attempt to steal are, and how they are put together.
-use Rattle.std.specs.Prelude.{Bool, true, false, List, [], ◌∷◌, ℕ, eqb}
+use Rattle.std.specs.Prelude.{Bool, true, false, List, [], ◌∷◌, ℕ, eqb, Option, Some, None}
 use Rattle.base.specs.Tests.{pick}
 use Rattle.steal.specs.declared.Steal.{Steal}
 use Rattle.steal.specs.declared.Steal.TheVariants.{Empty, Success, Retry}
-use Rattle.steal.specs.declared.Success.{Success as Found}
-use Rattle.steal.specs.declared.Success.TheVariants.{Job, Nothing}
 
 -- the number of each answer, which is its kind among the answers of all calls, and its value
 abbrev pub number_of : Steal → ℕ
@@ -32,10 +30,10 @@ is_retry_b Empty = false
 is_retry_b (Success job) = false
 is_retry_b Retry = true
 
-abbrev pub success_of : Steal → Found
-success_of Empty = Nothing
-success_of (Success job) = Job job
-success_of Retry = Nothing
+abbrev pub success_of : Steal → Option ℕ
+success_of Empty = None
+success_of (Success job) = Some job
+success_of Retry = None
 
 -- the second if that is Success, and otherwise Retry
 abbrev pub after_retry : Steal → Steal

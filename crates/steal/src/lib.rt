@@ -4,7 +4,7 @@
 ghost use Rattle.std.specs.Prelude.{◌≡◌};
 ghost use Rattle.steal.specs.Steal.{number_of, value_of, is_empty_b, is_success_b, is_retry_b, success_of, or_else, of_number, collected, answers};
 
-#[derive(Clone, Copy)]
+#[derive(Clone, Copy, PartialEq, Eq)]
 pub enum Steal {
     // The queue was empty.
     Empty,
@@ -14,52 +14,32 @@ pub enum Steal {
     Retry,
 }
 
-// The job of a success.
-#[derive(Clone, Copy)]
-pub enum Success {
-    Job(u64),
-    Nothing,
-}
-
 impl Steal {
     pub fn is_empty(self) -> bool
         ensures { result ≡ is_empty_b self }
     {
-        match self {
-            Steal::Empty => true,
-            Steal::Success(_) => false,
-            Steal::Retry => false,
-        }
+        matches!(self, Steal::Empty)
     }
 
     pub fn is_success(self) -> bool
         ensures { result ≡ is_success_b self }
     {
-        match self {
-            Steal::Empty => false,
-            Steal::Success(_) => true,
-            Steal::Retry => false,
-        }
+        matches!(self, Steal::Success(_))
     }
 
     pub fn is_retry(self) -> bool
         ensures { result ≡ is_retry_b self }
     {
-        match self {
-            Steal::Empty => false,
-            Steal::Success(_) => false,
-            Steal::Retry => true,
-        }
+        matches!(self, Steal::Retry)
     }
 
     // The job, if there is one.
-    pub fn success(self) -> Success
+    pub fn success(self) -> Option<u64>
         ensures { result ≡ success_of self }
     {
         match self {
-            Steal::Empty => Success::Nothing,
-            Steal::Success(job) => Success::Job(job),
-            Steal::Retry => Success::Nothing,
+            Steal::Success(job) => Some(job),
+            Steal::Empty | Steal::Retry => None,
         }
     }
 
@@ -93,11 +73,7 @@ impl Steal {
     pub fn value(self) -> u64
         ensures { result ≡ value_of self }
     {
-        match self {
-            Steal::Empty => 0,
-            Steal::Success(job) => job,
-            Steal::Retry => 0,
-        }
+        self.success().unwrap_or(0)
     }
 
     // The answer with this number and value; Empty where no answer has the number.
@@ -105,30 +81,23 @@ impl Steal {
     pub fn of(number: u64, value: u64) -> Steal
         ensures { result ≡ of_number number value }
     {
-        if number == 5 {
-            return Steal::Success(value);
+        match number {
+            5 => Steal::Success(value),
+            6 => Steal::Retry,
+            _ => Steal::Empty,
         }
-        if number == 6 {
-            return Steal::Retry;
-        }
-        Steal::Empty
     }
 }
 
 // A list of answers, lent as their numbers and their values, put together: the first success; otherwise Retry if there is one; otherwise
-// Empty. Where one of the two is longer its rest is not looked at.
-#[tactic(auto, unfolding(crate::specs::Steal::answers, crate::specs::Steal::collected))]
+// Empty. Where one of the two is longer its rest is not looked at. Two slices of numbers, not one of answers: a number that is no answer's is Empty.
 pub fn collect(numbers: &[u64], values: &[u64]) -> Steal
     ensures { result ≡ collected (answers numbers.now values.now) }
 {
-    let mut r = Steal::Empty;
-    let mut i = 0;
-    while i < numbers.len() {
-        if values.len() <= i {
-            return r;
-        }
-        r = r.or_else(Steal::of(numbers[i], values[i]));
-        i += 1;
-    }
-    r
+    numbers
+        .iter()
+        .zip(values)
+        .fold(Steal::Empty, |found, (&number, &value)| {
+            found.or_else(Steal::of(number, value))
+        })
 }

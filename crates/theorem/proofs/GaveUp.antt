@@ -1,6 +1,6 @@
 -- An operation that answers 8 or 9 has moved no job and written no cell since its begin: a stage from which such an answer can be given comes from such
 -- a stage (`early`), by a step that leaves every queue and every cell. So the calls are gone through from the last to the first.
-use Rattle.std.proofs.Common.{◌≡◌, ℕ, suc, ◌+◌, ◌*◌, ◌^◌, ◌<◌, ◌≤◌, Bool, true, false, T, List, [], ◌∷◌, length, sym, refl, ap, ◌∙◌, subst, ⊎_elim, arith, get_or-set_other}
+use Rattle.std.proofs.Common.{◌≡◌, ℕ, suc, ◌+◌, ◌*◌, ◌^◌, ◌<◌, ◌≤◌, Bool, true, false, T, List, [], ◌∷◌, length, sym, refl, ap, ◌∙◌, subst, ⊎_elim, arith, get_or-set_other, Result, Ok, Err}
 use native.Mathlib.Decide.{ℕ_discrete}
 use Rattle.base.specs.Tests.{le_or_lt}
 use Rattle.cells.specs.Cells.{place_cells}
@@ -26,8 +26,6 @@ use Rattle.stages.specs.Stages.{idle_b}
 use Rattle.gate.specs.declared.Operation.{Operation as CodeOperation}
 use Rattle.gate.specs.declared.Request.{Request}
 use Rattle.gate.specs.declared.Request.TheVariants.{Step, Begin}
-use Rattle.gate.specs.declared.Gate.{Gate}
-use Rattle.gate.specs.declared.Gate.TheVariants.{Open, Shut}
 use Rattle.gate.specs.Gate.{begin_tests, step_tests, then_gate}
 use Rattle.machine.specs.declared.state.Machine.{Machine}
 use Rattle.machine.specs.State.{After, refused, idle_thread, stage_at}
@@ -203,18 +201,18 @@ step_elsewhere : (m : Machine) (cells : List ℕ) (u t : ℕ) → (t ≡ u → �
 unfolding step_of
 step_elsewhere m cells u t d = go (then_gate (gate_of m (length cells) u) (step_tests (idle_b (stage_at m u))))
   where
-    go : (g : Gate) → stage_at (passing g m cells (ran m cells u (stage_at m u))).called.machine t ≡ stage_at m t
-    go Open = ap (λ x. x.stage) (get_or-set_other m.threads u t _ idle_thread d)
-    go (Shut r) = refl
+    go : (g : Result Unit Refusal) → stage_at (passing g m cells (ran m cells u (stage_at m u))).called.machine t ≡ stage_at m t
+    go (Ok x) = ap (λ x. x.stage) (get_or-set_other m.threads u t _ idle_thread d)
+    go (Err r) = refl
 
 begin_elsewhere : (m : Machine) (cells : List ℕ) (u t : ℕ) (o : CodeOperation) → (t ≡ u → ⊥)
     → stage_at (begin_of m cells u o).called.machine t ≡ stage_at m t
 unfolding begin_of
 begin_elsewhere m cells u t o d = go (then_gate (gate_of m (length cells) u) (begin_tests m.queue_count (idle_b (stage_at m u)) o))
   where
-    go : (g : Gate) → stage_at (passing g m cells (H.begun m cells u o)).called.machine t ≡ stage_at m t
-    go Open = ap (λ x. x.stage) (get_or-set_other m.threads u t _ idle_thread d)
-    go (Shut r) = refl
+    go : (g : Result Unit Refusal) → stage_at (passing g m cells (H.begun m cells u o)).called.machine t ≡ stage_at m t
+    go (Ok x) = ap (λ x. x.stage) (get_or-set_other m.threads u t _ idle_thread d)
+    go (Err r) = refl
 
 elsewhere : (m : Machine) (cells : List ℕ) (c : Call) (t : ℕ) → (t ≡ thread_of c → ⊥) → stage_at (called_of m cells c).called.machine t ≡ stage_at m t
 unfolding called_of
@@ -227,18 +225,18 @@ pub begin_leaves : (m : Machine) (cells : List ℕ) (t : ℕ) (o : CodeOperation
 unfolding begin_of
 begin_leaves m cells t o = go (then_gate (gate_of m (length cells) t) (begin_tests m.queue_count (idle_b (stage_at m t)) o))
   where
-    go : (g : Gate) → Leaves m cells (passing g m cells (H.begun m cells t o))
-    go Open = (λ k l. refl, refl)
-    go (Shut r) = (λ k l. refl, refl)
+    go : (g : Result Unit Refusal) → Leaves m cells (passing g m cells (H.begun m cells t o))
+    go (Ok x) = (λ k l. refl, refl)
+    go (Err r) = (λ k l. refl, refl)
 
 begin_stays : (m : Machine) (cells : List ℕ) (t : ℕ) (o : CodeOperation) → GoesOn (Begin o) (begin_of m cells t o).called.answer
     → (begin_of m cells t o).called.machine ≡ m
 unfolding begin_of
 begin_stays m cells t o = go (then_gate (gate_of m (length cells) t) (begin_tests m.queue_count (idle_b (stage_at m t)) o))
   where
-    go : (g : Gate) → GoesOn (Begin o) (passing g m cells (H.begun m cells t o)).called.answer → (passing g m cells (H.begun m cells t o)).called.machine ≡ m
-    go Open h = absurd h
-    go (Shut r) h = refl
+    go : (g : Result Unit Refusal) → GoesOn (Begin o) (passing g m cells (H.begun m cells t o)).called.answer → (passing g m cells (H.begun m cells t o)).called.machine ≡ m
+    go (Ok x) h = absurd h
+    go (Err r) h = refl
 
 -- ---- a call of the thread
 

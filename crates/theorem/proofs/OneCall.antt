@@ -1,5 +1,5 @@
 -- One call: a state of the model stands behind the machine after it too, and the jobs balance.
-use Rattle.std.proofs.Common.{◌≡◌, ℕ, suc, ◌+◌, ◌*◌, ◌^◌, ◌<◌, ◌≤◌, Bool, true, false, not, T, List, length, sym, refl, ap, ◌∙◌, subst, ⊎_elim, arith, le-ltb, eq-eqb, ne_eqb}
+use Rattle.std.proofs.Common.{◌≡◌, ℕ, suc, ◌+◌, ◌*◌, ◌^◌, ◌<◌, ◌≤◌, Bool, true, false, not, T, List, length, sym, refl, ap, ◌∙◌, subst, ⊎_elim, arith, le-ltb, eq-eqb, ne_eqb, Ok, Err}
 use Rattle.base.specs.Tests.{le_or_lt}
 use Rattle.cells.specs.Cells.{place_cells}
 use Rattle.parts.specs.declared.answer.Answer.TheVariants as B
@@ -9,7 +9,6 @@ use Rattle.stages.specs.Stages.{idle_b}
 use Rattle.gate.specs.declared.Operation.{Operation as CodeOperation}
 use Rattle.gate.specs.declared.Operation.TheVariants as O
 use Rattle.gate.specs.declared.Request.TheVariants.{Step, Begin}
-use Rattle.gate.specs.declared.Gate.TheVariants.{Open, Shut}
 use Rattle.machine.specs.declared.state.Machine.{Machine}
 use Rattle.machine.specs.State.{After, refused, stage_at}
 use Rattle.machine.specs.Sound.{sound_b}
@@ -133,18 +132,18 @@ module _ (n : ℕ) (fl : ℕ → Flavour) (mem : ℕ → ℕ) (c : ℕ) (lc : c 
   step_refused (other l) t r h = record { behind = later; bal = λ j. refl; fine = h }
 
   -- no such thread
-  pub gate_none : (t : ℕ) → n ≤ t → gate_of m (length cells) t ≡ Shut K.NoSuch
+  pub gate_none : (t : ℕ) → n ≤ t → gate_of m (length cells) t ≡ Err K.NoSuch
   unfolding gate_of
   gate_none t h =
       let w = b.linked in
       rw (call_sound, eq-eqb (length cells) (m.place_count * place_cells) w.pool_length, w.count, le-ltb t n h)
 
   -- a pool of another length
-  pub gate_other : (l : List ℕ) (t : ℕ) → (length l ≡ m.place_count * place_cells → ⊥) → gate_of m (length l) t ≡ Shut K.PoolLength
+  pub gate_other : (l : List ℕ) (t : ℕ) → (length l ≡ m.place_count * place_cells → ⊥) → gate_of m (length l) t ≡ Err K.PoolLength
   unfolding gate_of
   gate_other l t h = rw (call_sound, ne_eqb (length l) (m.place_count * place_cells) h)
 
-  pub gate_in : (t : ℕ) → t < n → gate_of m (length cells) t ≡ Open
+  pub gate_in : (t : ℕ) → t < n → gate_of m (length cells) t ≡ Ok tt
   gate_in t lt = gate_open n fl s m cells mem b.inv c b.bounded lc b.names b.linked t lt
 
   -- ---- begin
@@ -167,7 +166,7 @@ module _ (n : ℕ) (fl : ℕ → Flavour) (mem : ℕ → ℕ) (c : ℕ) (lc : c 
       k : Kept n fl 0 (wish mem t (operation_of o)) s (begun fl s t (operation_of o)) working
       k = begin_kept n fl 0 mem s t (operation_of o) b.inv lt i (exists n o e)
 
-  begin_shut : (t : ℕ) (o : CodeOperation) (r : Refusal) → t < n → begin_tests m.queue_count (idle_b (stage_at m t)) o ≡ Shut r
+  begin_shut : (t : ℕ) (o : CodeOperation) (r : Refusal) → t < n → begin_tests m.queue_count (idle_b (stage_at m t)) o ≡ Err r
       → begin_of m cells t o ≡ refused m r cells
   unfolding begin_of
   begin_shut t o r lt e = rw (gate_in t lt, e)
@@ -181,7 +180,7 @@ module _ (n : ℕ) (fl : ℕ → Flavour) (mem : ℕ → ℕ) (c : ℕ) (lc : c 
       idles : idle_b (stage_at m t) ≡ not (busy (s.stages t))
       idles = ap idle_b (w.stages t lt) ∙ idle_is b.names (b.names t (s.queues t).top) (s.stages t)
 
-      shut : (r : Refusal) → Allowed pool (B.Refused r) → begin_tests m.queue_count (idle_b (stage_at m t)) o ≡ Shut r
+      shut : (r : Refusal) → Allowed pool (B.Refused r) → begin_tests m.queue_count (idle_b (stage_at m t)) o ≡ Err r
           → Goes (asks pool t (Begin o)) (begin_of m cells t o)
       shut r h e = subst (Goes (asks pool t (Begin o))) (sym (begin_shut t o r lt e)) (begin_refused pool t o r h)
 

@@ -1,5 +1,5 @@
 -- Whole sessions: the induction over the calls, and what stands in the queues at rest.
-use Rattle.std.proofs.Common.{◌≡◌, ℕ, zero, suc, ◌+◌, ◌-◌, ◌*◌, ◌^◌, ◌<◌, Bool, true, false, not, eqb, List, [], ◌∷◌, length, sym, refl, ap, ◌∙◌, subst, ⊎_elim, arith, eqb-true}
+use Rattle.std.proofs.Common.{◌≡◌, ℕ, zero, suc, ◌+◌, ◌-◌, ◌*◌, ◌^◌, ◌<◌, Bool, true, false, not, eqb, List, [], ◌∷◌, length, sym, refl, ap, ◌∙◌, subst, ⊎_elim, arith, eqb-true, Result, Ok, Err, Some, None}
 use Rattle.base.specs.Tests.{le_or_lt}
 use Rattle.index.specs.Index.{plus_of}
 use Rattle.index.proofs.Laws.{plus_is, length_is}
@@ -8,14 +8,10 @@ use Rattle.parts.specs.declared.queue.Flavor.{Flavor}
 use Rattle.parts.specs.declared.answer.Answer.TheVariants as B
 use Rattle.parts.specs.declared.answer.Refusal.{Refusal}
 use Rattle.parts.specs.declared.answer.Refusal.TheVariants as K
-use Rattle.parts.specs.declared.out.Claim.{Claim as CodeClaim}
-use Rattle.parts.specs.declared.out.Claim.TheVariants as J
 use Rattle.stages.specs.Stages.{idle_b}
 use Rattle.sound.specs.Sound.{counts_b}
 use Rattle.gate.specs.declared.Operation.{Operation as CodeOperation}
 use Rattle.gate.specs.declared.Request.TheVariants.{Step, Begin}
-use Rattle.gate.specs.declared.Gate.{Gate}
-use Rattle.gate.specs.declared.Gate.TheVariants.{Open, Shut}
 use Rattle.machine.specs.declared.state.Machine.{Machine}
 use Rattle.machine.specs.State.{After, after, refused, queue_at, stage_at, counted}
 use Rattle.machine.specs.Setup.{zero_machine, fresh_machine, setup_of}
@@ -37,6 +33,7 @@ use Rattle.link.proofs.TurnLaws.{idle_is}
 use Rattle.theorem.specs.History.{pool, answered, other, Lent, Call, asks, lent_by, lent, pool_after, called_of, Lends, run_by, run, jobs_after, accepted_from}
 use Rattle.theorem.specs.History.{stands_in, standing, AtRest, AllAllowed}
 use Rattle.theorem.proofs.OneCall.{idle_of, Goes, one_call}
+use Rattle.parts.specs.Out.{Claim as CodeClaim}
 
 -- the session's pool is no other list
 pub own_pool : (l : List ℕ) → pool ≡ other l → ⊥
@@ -49,24 +46,24 @@ own_pool l e = subst (λ (x : Lent). is_pool x) e tt
 -- ---- the place count stays
 
 counted_places : (m : Machine) (g : CodeClaim) → (counted m g).place_count ≡ m.place_count
-counted_places m J.Nothing = refl
-counted_places m (J.Got number place) = refl
+counted_places m None = refl
+counted_places m (Some r) = refl
 
 step_places : (m : Machine) (cells : List ℕ) (t : ℕ) → (step_of m cells t).called.machine.place_count ≡ m.place_count
 unfolding step_of
 step_places m cells t = go (then_gate (gate_of m (length cells) t) (step_tests (idle_b (stage_at m t))))
   where
-    go : (g : Gate) → (passing g m cells (ran m cells t (stage_at m t))).called.machine.place_count ≡ m.place_count
-    go Open = counted_places m (claim_of m (stage_at m t))
-    go (Shut r) = refl
+    go : (g : Result Unit Refusal) → (passing g m cells (ran m cells t (stage_at m t))).called.machine.place_count ≡ m.place_count
+    go (Ok x) = counted_places m (claim_of m (stage_at m t))
+    go (Err r) = refl
 
 begin_places : (m : Machine) (cells : List ℕ) (t : ℕ) (o : CodeOperation) → (begin_of m cells t o).called.machine.place_count ≡ m.place_count
 unfolding begin_of
 begin_places m cells t o = go (then_gate (gate_of m (length cells) t) (begin_tests m.queue_count (idle_b (stage_at m t)) o))
   where
-    go : (g : Gate) → (passing g m cells (H.begun m cells t o)).called.machine.place_count ≡ m.place_count
-    go Open = refl
-    go (Shut r) = refl
+    go : (g : Result Unit Refusal) → (passing g m cells (H.begun m cells t o)).called.machine.place_count ≡ m.place_count
+    go (Ok x) = refl
+    go (Err r) = refl
 
 pub call_places : (m : Machine) (cells : List ℕ) (c : Call) → (called_of m cells c).called.machine.place_count ≡ m.place_count
 unfolding called_of

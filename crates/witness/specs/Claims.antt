@@ -1,7 +1,7 @@
 -- A claim takes the lowest-numbered free place. A place is in use while it holds a queue's current ring, a ring being built, or a ring that an operation
 -- in flight holds. Ring numbers count up; 2^64 - 2 is the last that is given. No place or no number left: push and batch answer 9; a shrinking pop skips
 -- the shrink and answers its job.
-use Rattle.std.specs.Prelude.{◌≡◌, ℕ, ◌-◌, ◌*◌, ◌^◌, List, [], ◌∷◌, map, replicate, pos, refl}
+use Rattle.std.specs.Prelude.{◌≡◌, ℕ, ◌-◌, ◌*◌, ◌^◌, List, [], ◌∷◌, map, replicate, pos, refl, Some, None}
 use Rattle.std.specs.Int.Count.{ones, ones_in}
 use Rattle.base.specs.Below.{all_below, any_below, first_not}
 use Rattle.index.specs.declared.Index.{Index}
@@ -14,8 +14,6 @@ use Rattle.parts.specs.declared.queue.Queue.{Queue}
 use Rattle.parts.specs.declared.answer.Answer.{Answer}
 use Rattle.parts.specs.declared.answer.Answer.TheVariants as A
 use Rattle.parts.specs.declared.answer.Shortage.TheVariants.{NoRing}
-use Rattle.parts.specs.declared.out.Claim.{Claim}
-use Rattle.parts.specs.declared.out.Claim.TheVariants.{Got, Nothing}
 use Rattle.parts.specs.declared.stage.ResizeStage.{ResizeStage}
 use Rattle.parts.specs.declared.stage.ResizeStage.TheVariants as Z
 use Rattle.parts.specs.declared.stage.PushStage.TheVariants as U
@@ -33,6 +31,7 @@ use Rattle.machine.specs.Sound.{sound_b}
 use Rattle.machine.specs.Claim.{free_ring}
 use Rattle.machine.specs.Setup.{fresh_machine}
 use Rattle.machine.specs.Step.{gate_of, step_of}
+use Rattle.parts.specs.Out.{Claim}
 
 abbrev at : ℕ → Index
 at n = record { 0 = pos n }
@@ -65,10 +64,10 @@ pub record Row : Type 0 where
   pub claim : Claim
 
 abbrev got : Machine → ℕ → ℕ → Row
-got m number place = record { machine = m; claim = Got (record { 0 = number }) (record { 0 = place }) }
+got m number place = record { machine = m; claim = Some (record { number = record { 0 = number }; place = record { 0 = place } }) }
 
 abbrev nothing : Machine → Row
-nothing m = record { machine = m; claim = Nothing }
+nothing m = record { machine = m; claim = None }
 
 abbrev claimed : Row → Row
 claimed r = record { machine = r.machine; claim = free_ring r.machine }

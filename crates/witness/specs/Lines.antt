@@ -1,6 +1,6 @@
 -- The lines of the step tables, one step each, from written states: what is read, written and compared, and both ways of every test. Cell i of the pool
 -- holds job i, so that a job tells where it was read. The pops stand in Pops, the claim in Claims.
-use Rattle.std.specs.Prelude.{◌≡◌, ℕ, zero, suc, ◌+◌, List, [], ◌∷◌, map, pos, negsuc, slice_set, refl}
+use Rattle.std.specs.Prelude.{◌≡◌, ℕ, zero, suc, ◌+◌, List, [], ◌∷◌, map, pos, negsuc, slice_set, refl, Option, None, Some}
 use Rattle.std.specs.Int.Count.{ones, ones_in}
 use Rattle.base.specs.Below.{all_below, any_below, first_not}
 use Rattle.index.specs.declared.Index.{Index}
@@ -26,8 +26,6 @@ use Rattle.parts.specs.declared.stage.StealStage.TheVariants as T
 use Rattle.parts.specs.declared.stage.LengthStage.TheVariants as N
 use Rattle.parts.specs.declared.stage.BatchKind.{BatchKind}
 use Rattle.parts.specs.declared.stage.BatchKind.TheVariants as K
-use Rattle.parts.specs.declared.stage.InHand.{InHand}
-use Rattle.parts.specs.declared.stage.InHand.TheVariants as H
 use Rattle.parts.specs.declared.stage.Wanted.{Wanted}
 use Rattle.parts.specs.declared.stage.Haul.{Haul}
 use Rattle.parts.specs.declared.stage.AllStage.{AllStage}
@@ -238,7 +236,7 @@ abbrev ready : BatchKind → ℕ → Stage
 ready k n = BatchOwn 1 (O.LoadBack (wanted k n))
 
 -- with nothing in hand, or with a job
-abbrev pub haul : ℕ → InHand → Haul
+abbrev pub haul : ℕ → Option ℕ → Haul
 haul n h = record { ring = new; f = at 3; n = n; b = at 5; in_hand = h }
 
 abbrev hold : BatchKind → ℕ → Stage
@@ -289,10 +287,10 @@ until_held =
     line q o (reserve 63 (Y.Resize (Z.Swap (ring 9 2 128)))) (queue Fifo 3 5 (ring 9 2 128)) o (ready K.Batch 63) B.Working pool ∷
     -- load own back; load source ring and hold
     goes q o (ready K.Batch 3) (hold K.Batch 3) ∷
-    goes q o (hold K.Batch 3) (all (haul 3 H.Nothing) (A.Copy 0)) ∷
-    goes q lifo (hold K.Batch 3) (one (haul 3 H.Nothing) (E.Read 0)) ∷
-    goes q o (hold K.BatchAndPop 3) (BatchSource 1 (S.Take (haul 3 H.Nothing) X.ReadFirst)) ∷
-    goes q lifo (hold K.BatchAndPop 3) (BatchSource 1 (S.Take (haul 3 H.Nothing) X.ReadFirst)) ∷
+    goes q o (hold K.Batch 3) (all (haul 3 None) (A.Copy 0)) ∷
+    goes q lifo (hold K.Batch 3) (one (haul 3 None) (E.Read 0)) ∷
+    goes q o (hold K.BatchAndPop 3) (BatchSource 1 (S.Take (haul 3 None) X.ReadFirst)) ∷
+    goes q lifo (hold K.BatchAndPop 3) (BatchSource 1 (S.Take (haul 3 None) X.ReadFirst)) ∷
     []
 
 pub all_until_held : map stepped until_held ≡ map left until_held
@@ -304,46 +302,46 @@ all_until_held = refl
 abbrev pub into : Queue
 into = own Lifo 3 5
 
-abbrev first : InHand
-first = H.Job 259
+abbrev first : Option ℕ
+first = Some 259
 
 -- the held ring is one that the other queue has no more
-abbrev stale : InHand → Haul
+abbrev stale : Option ℕ → Haul
 stale h = record { ring = old; f = at 3; n = 3; b = at 5; in_hand = h }
 
-abbrev stale_again : InHand → Haul
+abbrev stale_again : Option ℕ → Haul
 stale_again h = record { ring = again; f = at 3; n = 3; b = at 5; in_hand = h }
 
 -- the front that was loaded is another's
-abbrev late : InHand → Haul
+abbrev late : Option ℕ → Haul
 late h = record { ring = new; f = at 2; n = 3; b = at 5; in_hand = h }
 
 abbrev pub from_fifo : List Line
 from_fifo =
     -- batch and pop: read cell f
-    goes q o (BatchSource 1 (S.Take (haul 3 H.Nothing) X.ReadFirst)) (all (haul 3 first) (A.Copy 0)) ∷
-    goes q o (BatchSource 1 (S.Take (haul 0 H.Nothing) X.ReadFirst)) (all (haul 0 first) A.ReloadRing) ∷
+    goes q o (BatchSource 1 (S.Take (haul 3 None) X.ReadFirst)) (all (haul 3 first) (A.Copy 0)) ∷
+    goes q o (BatchSource 1 (S.Take (haul 0 None) X.ReadFirst)) (all (haul 0 first) A.ReloadRing) ∷
     -- for each of n, read source cell, from f on, or from f + 1
-    goes q o (all (haul 3 H.Nothing) (A.Copy 2)) (put (haul 3 H.Nothing) (W.WriteCopy 2 261)) ∷
+    goes q o (all (haul 3 None) (A.Copy 2)) (put (haul 3 None) (W.WriteCopy 2 261)) ∷
     goes q o (all (haul 3 first) (A.Copy 2)) (put (haul 3 first) (W.WriteCopy 2 262)) ∷
-    goes q o (all (stale H.Nothing) (A.Copy 0)) (put (stale H.Nothing) (W.WriteCopy 0 515)) ∷
+    goes q o (all (stale None) (A.Copy 0)) (put (stale None) (W.WriteCopy 0 515)) ∷
     -- write own cell; into LIFO: last first
-    writes q o (put (haul 3 H.Nothing) (W.WriteCopy 0 900)) 5 900 (all (haul 3 H.Nothing) (A.Copy 1)) ∷
-    writes q o (put (haul 3 H.Nothing) (W.WriteCopy 2 900)) 7 900 (all (haul 3 H.Nothing) A.ReloadRing) ∷
-    writes into o (put (haul 3 H.Nothing) (W.WriteCopy 0 900)) 7 900 (all (haul 3 H.Nothing) (A.Copy 1)) ∷
-    writes into o (put (haul 3 H.Nothing) (W.WriteCopy 2 900)) 5 900 (all (haul 3 H.Nothing) A.ReloadRing) ∷
+    writes q o (put (haul 3 None) (W.WriteCopy 0 900)) 5 900 (all (haul 3 None) (A.Copy 1)) ∷
+    writes q o (put (haul 3 None) (W.WriteCopy 2 900)) 7 900 (all (haul 3 None) A.ReloadRing) ∷
+    writes into o (put (haul 3 None) (W.WriteCopy 0 900)) 7 900 (all (haul 3 None) (A.Copy 1)) ∷
+    writes into o (put (haul 3 None) (W.WriteCopy 2 900)) 5 900 (all (haul 3 None) A.ReloadRing) ∷
     -- load ring (changed: Retry)
-    goes q o (all (haul 3 H.Nothing) A.ReloadRing) (all (haul 3 H.Nothing) A.Exchange) ∷
-    ends q o (all (stale H.Nothing) A.ReloadRing) (B.Stolen Retry) ∷
+    goes q o (all (haul 3 None) A.ReloadRing) (all (haul 3 None) A.Exchange) ∷
+    ends q o (all (stale None) A.ReloadRing) (B.Stolen Retry) ∷
     ends q o (all (stale first) A.ReloadRing) (B.Stolen Retry) ∷
-    ends q o (all (stale_again H.Nothing) A.ReloadRing) (B.Stolen Retry) ∷
+    ends q o (all (stale_again None) A.ReloadRing) (B.Stolen Retry) ∷
     -- compare-exchange f to f + n, or to f + n + 1 (lost: Retry)
-    takes q (other Fifo 3 8) (all (haul 3 H.Nothing) A.Exchange) (other Fifo 6 8) (put (haul 3 H.Nothing) W.StoreBack) ∷
+    takes q (other Fifo 3 8) (all (haul 3 None) A.Exchange) (other Fifo 6 8) (put (haul 3 None) W.StoreBack) ∷
     takes q (other Fifo 3 8) (all (haul 3 first) A.Exchange) (other Fifo 7 8) (put (haul 3 first) W.StoreBack) ∷
-    ends q o (all (late H.Nothing) A.Exchange) (B.Stolen Retry) ∷
+    ends q o (all (late None) A.Exchange) (B.Stolen Retry) ∷
     ends q o (all (late first) A.Exchange) (B.Stolen Retry) ∷
     -- store own back; Success, or the first
-    line q o (put (haul 3 H.Nothing) W.StoreBack) (own Fifo 3 8) o Idle B.Moved pool ∷
+    line q o (put (haul 3 None) W.StoreBack) (own Fifo 3 8) o Idle B.Moved pool ∷
     line q o (put (haul 3 first) W.StoreBack) (own Fifo 3 8) o Idle (B.Stolen (Success 259)) pool ∷
     []
 
@@ -354,17 +352,17 @@ all_from_fifo = refl
 -- ---- LIFO source, one by one
 
 -- n jobs from this front on
-abbrev from_front : ℕ → ℕ → InHand → Haul
+abbrev from_front : ℕ → ℕ → Option ℕ → Haul
 from_front f n h = record { ring = new; f = at f; n = n; b = at 5; in_hand = h }
 
 -- stopped with i written; the stale and the late one too
-abbrev stopped : ℕ → InHand → Haul
+abbrev stopped : ℕ → Option ℕ → Haul
 stopped i h = from_front 3 i h
 
-abbrev stale_with : ℕ → InHand → Haul
+abbrev stale_with : ℕ → Option ℕ → Haul
 stale_with i h = record { ring = old; f = at 3; n = i; b = at 5; in_hand = h }
 
-abbrev late_with : ℕ → InHand → Haul
+abbrev late_with : ℕ → Option ℕ → Haul
 late_with i h = record { ring = new; f = at 2; n = i; b = at 5; in_hand = h }
 
 abbrev pub reversing : PutStage
@@ -373,46 +371,46 @@ reversing = W.Swap 0 Q.ReadNear
 abbrev pub from_lifo : List Line
 from_lifo =
     -- batch and pop: read cell f; compare-exchange f to f + 1 at once (lost: Retry)
-    goes q lifo (BatchSource 1 (S.Take (haul 3 H.Nothing) X.ReadFirst)) (one (haul 3 H.Nothing) (E.ExchangeFirst 259)) ∷
-    takes q lifo (one (haul 3 H.Nothing) (E.ExchangeFirst 259)) (other Lifo 4 8) (one (from_front 4 3 first) (E.ReloadBack 0)) ∷
-    takes q lifo (one (haul 0 H.Nothing) (E.ExchangeFirst 259)) (other Lifo 4 8) (put (from_front 4 0 first) W.StoreBack) ∷
-    ends q lifo (one (late H.Nothing) (E.ExchangeFirst 258)) (B.Stolen Retry) ∷
+    goes q lifo (BatchSource 1 (S.Take (haul 3 None) X.ReadFirst)) (one (haul 3 None) (E.ExchangeFirst 259)) ∷
+    takes q lifo (one (haul 3 None) (E.ExchangeFirst 259)) (other Lifo 4 8) (one (from_front 4 3 first) (E.ReloadBack 0)) ∷
+    takes q lifo (one (haul 0 None) (E.ExchangeFirst 259)) (other Lifo 4 8) (put (from_front 4 0 first) W.StoreBack) ∷
+    ends q lifo (one (late None) (E.ExchangeFirst 258)) (B.Stolen Retry) ∷
     -- load back, and stop if its difference to f <= 0; into FIFO: reverse what was written
-    goes q (other Lifo 3 4) (one (haul 3 H.Nothing) (E.ReloadBack 2)) (one (haul 3 H.Nothing) (E.Read 2)) ∷
-    goes q (other Lifo 3 3) (one (haul 3 H.Nothing) (E.ReloadBack 2)) (put (stopped 2 H.Nothing) reversing) ∷
-    goes q (other Lifo 3 2) (one (haul 3 H.Nothing) (E.ReloadBack 2)) (put (stopped 2 H.Nothing) reversing) ∷
-    goes q (other Lifo 3 3) (one (haul 3 H.Nothing) (E.ReloadBack 1)) (put (stopped 1 H.Nothing) W.StoreBack) ∷
-    goes into (other Lifo 3 3) (one (haul 3 H.Nothing) (E.ReloadBack 2)) (put (stopped 2 H.Nothing) W.StoreBack) ∷
+    goes q (other Lifo 3 4) (one (haul 3 None) (E.ReloadBack 2)) (one (haul 3 None) (E.Read 2)) ∷
+    goes q (other Lifo 3 3) (one (haul 3 None) (E.ReloadBack 2)) (put (stopped 2 None) reversing) ∷
+    goes q (other Lifo 3 2) (one (haul 3 None) (E.ReloadBack 2)) (put (stopped 2 None) reversing) ∷
+    goes q (other Lifo 3 3) (one (haul 3 None) (E.ReloadBack 1)) (put (stopped 1 None) W.StoreBack) ∷
+    goes into (other Lifo 3 3) (one (haul 3 None) (E.ReloadBack 2)) (put (stopped 2 None) W.StoreBack) ∷
     goes q (other Lifo 3 3) (one (haul 3 first) (E.ReloadBack 0)) (put (stopped 0 first) W.StoreBack) ∷
     -- read cell f
-    goes q lifo (one (haul 3 H.Nothing) (E.Read 2)) (one (haul 3 H.Nothing) (E.ReloadRing 2 259)) ∷
-    goes q lifo (one (stale H.Nothing) (E.Read 2)) (one (stale H.Nothing) (E.ReloadRing 2 515)) ∷
+    goes q lifo (one (haul 3 None) (E.Read 2)) (one (haul 3 None) (E.ReloadRing 2 259)) ∷
+    goes q lifo (one (stale None) (E.Read 2)) (one (stale None) (E.ReloadRing 2 515)) ∷
     -- load ring (changed: stop). None taken: Retry
-    goes q lifo (one (haul 3 H.Nothing) (E.ReloadRing 2 259)) (one (haul 3 H.Nothing) (E.Exchange 2 259)) ∷
-    goes q lifo (one (stale H.Nothing) (E.ReloadRing 2 515)) (put (stale_with 2 H.Nothing) reversing) ∷
-    ends q lifo (one (stale H.Nothing) (E.ReloadRing 0 515)) (B.Stolen Retry) ∷
-    ends q lifo (one (stale_again H.Nothing) (E.ReloadRing 0 259)) (B.Stolen Retry) ∷
+    goes q lifo (one (haul 3 None) (E.ReloadRing 2 259)) (one (haul 3 None) (E.Exchange 2 259)) ∷
+    goes q lifo (one (stale None) (E.ReloadRing 2 515)) (put (stale_with 2 None) reversing) ∷
+    ends q lifo (one (stale None) (E.ReloadRing 0 515)) (B.Stolen Retry) ∷
+    ends q lifo (one (stale_again None) (E.ReloadRing 0 259)) (B.Stolen Retry) ∷
     goes q lifo (one (stale first) (E.ReloadRing 0 515)) (put (stale_with 0 first) W.StoreBack) ∷
     -- compare-exchange f to f + 1 (lost: stop); f goes up
-    takes q lifo (one (haul 3 H.Nothing) (E.Exchange 2 700)) (other Lifo 4 8) (put (from_front 4 3 H.Nothing) (W.WriteOne 2 700)) ∷
-    goes into lifo (one (late H.Nothing) (E.Exchange 2 700)) (put (late_with 2 H.Nothing) W.StoreBack) ∷
-    ends q lifo (one (late H.Nothing) (E.Exchange 0 700)) (B.Stolen Retry) ∷
+    takes q lifo (one (haul 3 None) (E.Exchange 2 700)) (other Lifo 4 8) (put (from_front 4 3 None) (W.WriteOne 2 700)) ∷
+    goes into lifo (one (late None) (E.Exchange 2 700)) (put (late_with 2 None) W.StoreBack) ∷
+    ends q lifo (one (late None) (E.Exchange 0 700)) (B.Stolen Retry) ∷
     goes q lifo (one (late first) (E.Exchange 0 700)) (put (late_with 0 first) W.StoreBack) ∷
     -- of a batch and pop: write the PREVIOUS job, and the one just taken is in hand
-    takes q lifo (one (haul 3 first) (E.Exchange 2 700)) (other Lifo 4 8) (put (from_front 4 3 (H.Job 700)) (W.WriteOne 2 259)) ∷
+    takes q lifo (one (haul 3 first) (E.Exchange 2 700)) (other Lifo 4 8) (put (from_front 4 3 (Some 700)) (W.WriteOne 2 259)) ∷
     -- write own cell; the next, or after n reverse
-    writes q lifo (put (haul 3 H.Nothing) (W.WriteOne 1 700)) 6 700 (one (haul 3 H.Nothing) (E.ReloadBack 2)) ∷
-    writes q lifo (put (haul 3 H.Nothing) (W.WriteOne 2 700)) 7 700 (put (haul 3 H.Nothing) reversing) ∷
-    writes into lifo (put (haul 3 H.Nothing) (W.WriteOne 2 700)) 7 700 (put (haul 3 H.Nothing) W.StoreBack) ∷
+    writes q lifo (put (haul 3 None) (W.WriteOne 1 700)) 6 700 (one (haul 3 None) (E.ReloadBack 2)) ∷
+    writes q lifo (put (haul 3 None) (W.WriteOne 2 700)) 7 700 (put (haul 3 None) reversing) ∷
+    writes into lifo (put (haul 3 None) (W.WriteOne 2 700)) 7 700 (put (haul 3 None) W.StoreBack) ∷
     -- a swap: read the nearer, read the other, write the nearer, write the other
-    goes q lifo (put (haul 3 H.Nothing) (W.Swap 0 Q.ReadNear)) (put (haul 3 H.Nothing) (W.Swap 0 (Q.ReadFar 5))) ∷
-    goes q lifo (put (haul 3 H.Nothing) (W.Swap 0 (Q.ReadFar 5))) (put (haul 3 H.Nothing) (W.Swap 0 (Q.WriteNear 5 7))) ∷
-    writes q lifo (put (haul 3 H.Nothing) (W.Swap 0 (Q.WriteNear 5 7))) 5 7 (put (haul 3 H.Nothing) (W.Swap 0 (Q.WriteFar 5))) ∷
-    writes q lifo (put (haul 3 H.Nothing) (W.Swap 0 (Q.WriteFar 5))) 7 5 (put (haul 3 H.Nothing) W.StoreBack) ∷
-    writes q lifo (put (haul 4 H.Nothing) (W.Swap 0 (Q.WriteFar 5))) 8 5 (put (haul 4 H.Nothing) (W.Swap 1 Q.ReadNear)) ∷
-    writes q lifo (put (haul 4 H.Nothing) (W.Swap 1 (Q.WriteFar 6))) 7 6 (put (haul 4 H.Nothing) W.StoreBack) ∷
+    goes q lifo (put (haul 3 None) (W.Swap 0 Q.ReadNear)) (put (haul 3 None) (W.Swap 0 (Q.ReadFar 5))) ∷
+    goes q lifo (put (haul 3 None) (W.Swap 0 (Q.ReadFar 5))) (put (haul 3 None) (W.Swap 0 (Q.WriteNear 5 7))) ∷
+    writes q lifo (put (haul 3 None) (W.Swap 0 (Q.WriteNear 5 7))) 5 7 (put (haul 3 None) (W.Swap 0 (Q.WriteFar 5))) ∷
+    writes q lifo (put (haul 3 None) (W.Swap 0 (Q.WriteFar 5))) 7 5 (put (haul 3 None) W.StoreBack) ∷
+    writes q lifo (put (haul 4 None) (W.Swap 0 (Q.WriteFar 5))) 8 5 (put (haul 4 None) (W.Swap 1 Q.ReadNear)) ∷
+    writes q lifo (put (haul 4 None) (W.Swap 1 (Q.WriteFar 6))) 7 6 (put (haul 4 None) W.StoreBack) ∷
     -- answer the last job taken
-    line q lifo (put (haul 2 (H.Job 700)) W.StoreBack) (own Fifo 3 7) lifo Idle (B.Stolen (Success 700)) pool ∷
+    line q lifo (put (haul 2 (Some 700)) W.StoreBack) (own Fifo 3 7) lifo Idle (B.Stolen (Success 700)) pool ∷
     []
 
 pub all_from_lifo : map stepped from_lifo ≡ map left from_lifo

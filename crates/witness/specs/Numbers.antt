@@ -1,10 +1,8 @@
 -- Numbers. Front and back: 64-bit signed, wrapping. The difference is back minus front, wrapped; below zero it is an answer, and the length is then 0.
 -- Index i lies in cell i modulo capacity. Capacity: 64, 128 or 256.
-use Rattle.std.specs.Prelude.{◌≡◌, ℕ, ◌+◌, ◌-◌, ◌^◌, Bool, true, false, List, [], ◌∷◌, map, ℤ, pos, negsuc, refl}
+use Rattle.std.specs.Prelude.{◌≡◌, ℕ, ◌+◌, ◌-◌, ◌^◌, Bool, true, false, List, [], ◌∷◌, map, ℤ, pos, negsuc, refl, Option, Some, None}
 use Rattle.index.specs.declared.Index.{Index}
 use Rattle.index.specs.Index.{wrap, plus_of, minus_of, difference_of, length_of, behind_b, empty_b, full_b, spans_b, same_b, cell_of}
-use Rattle.ring.specs.declared.Capacity.{Capacity}
-use Rattle.ring.specs.declared.Capacity.TheVariants.{Of, TooLarge}
 use Rattle.ring.specs.Capacity.{twice_of, doubled, holding_of}
 
 abbrev at : ℤ → Index
@@ -167,10 +165,10 @@ all_cells = refl
 
 pub record Size : Type 0 where
   pub number : ℕ
-  pub twice : Capacity
-  pub holding : Capacity
+  pub twice : Option ℕ
+  pub holding : Option ℕ
 
-abbrev size : ℕ → Capacity → Capacity → Size
+abbrev size : ℕ → Option ℕ → Option ℕ → Size
 size n t h = record { number = n; twice = t; holding = h }
 
 abbrev sized : Size → Size
@@ -178,15 +176,15 @@ sized s = size s.number (twice_of s.number) (holding_of s.number)
 
 abbrev pub sizes : List Size
 sizes =
-    size 1 (Of 2) (Of 64) ∷
-    size 64 (Of 128) (Of 64) ∷
-    size 65 (Of 130) (Of 128) ∷
-    size 128 (Of 256) (Of 128) ∷
-    size 129 TooLarge (Of 256) ∷
-    size 256 TooLarge (Of 256) ∷
-    size 257 TooLarge TooLarge ∷
+    size 1 (Some 2) (Some 64) ∷
+    size 64 (Some 128) (Some 64) ∷
+    size 65 (Some 130) (Some 128) ∷
+    size 128 (Some 256) (Some 128) ∷
+    size 129 None (Some 256) ∷
+    size 256 None (Some 256) ∷
+    size 257 None None ∷
     -- a sum past 2^64 is meant as mathematics
-    size (2 ^ 64 + 3) TooLarge TooLarge ∷
+    size (2 ^ 64 + 3) None None ∷
     []
 
 pub all_sizes : map sized sizes ≡ sizes

@@ -1,5 +1,5 @@
 -- The lines of the two pops, one step each, as in Lines; and sound states that no session reaches, each with what its step does.
-use Rattle.std.specs.Prelude.{◌≡◌, ℕ, ◌-◌, ◌^◌, List, [], ◌∷◌, map, refl}
+use Rattle.std.specs.Prelude.{◌≡◌, ℕ, ◌-◌, ◌^◌, List, [], ◌∷◌, map, refl, None}
 use Rattle.std.specs.Int.Count.{ones, ones_in}
 use Rattle.base.specs.Below.{all_below, any_below, first_not}
 use Rattle.index.specs.Index.{wrap, plus_of, minus_of, difference_of, length_of, behind_b, empty_b, spans_b, same_b, cell_of}
@@ -18,7 +18,6 @@ use Rattle.parts.specs.declared.stage.LifoPopStage.{LifoPopStage}
 use Rattle.parts.specs.declared.stage.LifoPopStage.TheVariants as L
 use Rattle.parts.specs.declared.stage.PopStage.TheVariants as P
 use Rattle.parts.specs.declared.stage.Popper.TheVariants as M
-use Rattle.parts.specs.declared.stage.InHand.TheVariants as H
 use Rattle.parts.specs.declared.stage.Haul.{Haul}
 use Rattle.parts.specs.declared.stage.AllStage.TheVariants as A
 use Rattle.parts.specs.declared.stage.SwapStage.TheVariants as Q
@@ -112,7 +111,7 @@ all_lifo_pops = refl
 
 -- a haul whose own back is 0
 abbrev none_yet : Haul
-none_yet = record { ring = new; f = at 3; n = 0; b = at 0; in_hand = H.Nothing }
+none_yet = record { ring = new; f = at 3; n = 0; b = at 0; in_hand = None }
 
 abbrev pub unreached : List Line
 unreached =
@@ -125,18 +124,18 @@ unreached =
     -- a difference of -1 at a fetch-and-add leaves -2
     turns (own Fifo 4 3) (fifo (D.FetchAdd (at 3) 0)) (own Fifo 5 3) (fifo (D.RestoreFront (at 4))) ∷
     -- a copy more than n: into FIFO behind the others, into LIFO before them, own back + n - 1 - i
-    writes q o (put (haul 3 H.Nothing) (W.WriteCopy 3 900)) 8 900 (all (haul 3 H.Nothing) A.ReloadRing) ∷
-    writes into o (put (haul 3 H.Nothing) (W.WriteCopy 3 900)) 4 900 (all (haul 3 H.Nothing) A.ReloadRing) ∷
+    writes q o (put (haul 3 None) (W.WriteCopy 3 900)) 8 900 (all (haul 3 None) A.ReloadRing) ∷
+    writes into o (put (haul 3 None) (W.WriteCopy 3 900)) 4 900 (all (haul 3 None) A.ReloadRing) ∷
     -- an index before 0 lies in the last cell
     writes into o (put none_yet (W.WriteCopy 0 900)) 63 900 (all none_yet A.ReloadRing) ∷
     -- a swap that is not due: its far cell is own back + n - 1 - x
-    goes q lifo (put (haul 3 H.Nothing) (W.Swap 3 Q.ReadNear)) (put (haul 3 H.Nothing) (W.Swap 3 (Q.ReadFar 8))) ∷
-    goes q lifo (put (haul 3 H.Nothing) (W.Swap 3 (Q.ReadFar 8))) (put (haul 3 H.Nothing) (W.Swap 3 (Q.WriteNear 8 4))) ∷
-    writes q lifo (put (haul 3 H.Nothing) (W.Swap 3 (Q.WriteFar 8))) 4 8 (put (haul 3 H.Nothing) W.StoreBack) ∷
+    goes q lifo (put (haul 3 None) (W.Swap 3 Q.ReadNear)) (put (haul 3 None) (W.Swap 3 (Q.ReadFar 8))) ∷
+    goes q lifo (put (haul 3 None) (W.Swap 3 (Q.ReadFar 8))) (put (haul 3 None) (W.Swap 3 (Q.WriteNear 8 4))) ∷
+    writes q lifo (put (haul 3 None) (W.Swap 3 (Q.WriteFar 8))) 4 8 (put (haul 3 None) W.StoreBack) ∷
     -- a job that is written when n are is one more, and the back that is stored shows it
-    writes q lifo (put (haul 3 H.Nothing) (W.WriteOne 3 700)) 8 700 (put (haul 4 H.Nothing) reversing) ∷
-    writes into lifo (put (haul 3 H.Nothing) (W.WriteOne 3 700)) 8 700 (put (haul 4 H.Nothing) W.StoreBack) ∷
-    line into lifo (put (haul 4 H.Nothing) W.StoreBack) (own Lifo 3 9) lifo Idle B.Moved pool ∷
+    writes q lifo (put (haul 3 None) (W.WriteOne 3 700)) 8 700 (put (haul 4 None) reversing) ∷
+    writes into lifo (put (haul 3 None) (W.WriteOne 3 700)) 8 700 (put (haul 4 None) W.StoreBack) ∷
+    line into lifo (put (haul 4 None) W.StoreBack) (own Lifo 3 9) lifo Idle B.Moved pool ∷
     []
 
 pub all_unreached : map stepped unreached ≡ map left unreached

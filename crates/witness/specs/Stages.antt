@@ -1,6 +1,6 @@
 -- Stages by what they remember, all of each kind: those that hold a ring, build one, resize to a capacity, name a queue, want n jobs, count them.
 -- What is not in question is sound: ring 9 in place 2, queue 0, no jobs counted.
-use Rattle.std.specs.Prelude.{ℕ, List, [], ◌∷◌, ◌++◌, map, negsuc}
+use Rattle.std.specs.Prelude.{ℕ, List, [], ◌∷◌, ◌++◌, map, negsuc, None}
 use Rattle.index.specs.declared.Index.{Index}
 use Rattle.ring.specs.declared.Ring.{Ring}
 use Rattle.parts.specs.declared.stage.ResizeStage.{ResizeStage}
@@ -13,7 +13,6 @@ use Rattle.parts.specs.declared.stage.Popper.TheVariants as M
 use Rattle.parts.specs.declared.stage.StealStage.TheVariants as T
 use Rattle.parts.specs.declared.stage.LengthStage.TheVariants as N
 use Rattle.parts.specs.declared.stage.BatchKind.TheVariants as K
-use Rattle.parts.specs.declared.stage.InHand.TheVariants as H
 use Rattle.parts.specs.declared.stage.Wanted.{Wanted}
 use Rattle.parts.specs.declared.stage.Haul.{Haul}
 use Rattle.parts.specs.declared.stage.AllStage.TheVariants as A
@@ -42,7 +41,7 @@ abbrev wanted : ℕ → Wanted
 wanted n = record { kind = K.Batch; f = far; n = n }
 
 abbrev haul : Ring → ℕ → Haul
-haul ring n = record { ring = ring; f = far; n = n; b = far; in_hand = H.Nothing }
+haul ring n = record { ring = ring; f = far; n = n; b = far; in_hand = None }
 
 -- a haul of three jobs from a ring in the free place
 abbrev three : Haul

@@ -1,10 +1,8 @@
 -- Steal helpers. `or_else` takes the second answer as a value: Empty gives the second, Success the first, Retry the second if that is Success and
 -- otherwise Retry. Collecting a list: the first Success, otherwise Retry if there is one, otherwise Empty.
-use Rattle.std.specs.Prelude.{◌≡◌, ℕ, Bool, true, false, List, [], ◌∷◌, map, refl}
+use Rattle.std.specs.Prelude.{◌≡◌, ℕ, Bool, true, false, List, [], ◌∷◌, map, refl, Option, Some, None}
 use Rattle.steal.specs.declared.Steal.{Steal}
 use Rattle.steal.specs.declared.Steal.TheVariants.{Empty, Success, Retry}
-use Rattle.steal.specs.declared.Success.{Success as Found}
-use Rattle.steal.specs.declared.Success.TheVariants.{Job, Nothing}
 use Rattle.steal.specs.Steal.{number_of, value_of, is_empty_b, is_success_b, is_retry_b, success_of, or_else, collected, of_number, answers}
 
 -- ---- two answers, and what `or_else` gives
@@ -46,11 +44,11 @@ pub record One : Type 0 where
   pub empty : Bool
   pub success : Bool
   pub retry : Bool
-  pub found : Found
+  pub found : Option ℕ
   pub number : ℕ
   pub value : ℕ
 
-abbrev one : Steal → Bool → Bool → Bool → Found → ℕ → ℕ → One
+abbrev one : Steal → Bool → Bool → Bool → Option ℕ → ℕ → ℕ → One
 one s e u r f n v = record { answer = s; empty = e; success = u; retry = r; found = f; number = n; value = v }
 
 abbrev told : One → One
@@ -59,10 +57,10 @@ told o =
 
 abbrev pub kinds : List One
 kinds =
-    one Empty true false false Nothing 4 0 ∷
-    one (Success 7) false true false (Job 7) 5 7 ∷
-    one (Success 0) false true false (Job 0) 5 0 ∷
-    one Retry false false true Nothing 6 0 ∷
+    one Empty true false false None 4 0 ∷
+    one (Success 7) false true false (Some 7) 5 7 ∷
+    one (Success 0) false true false (Some 0) 5 0 ∷
+    one Retry false false true None 6 0 ∷
     []
 
 pub all_kinds : map told kinds ≡ kinds

@@ -1,10 +1,8 @@
 -- What a batch remembers as words: its kind, what it wants, what it hauls.
-use Rattle.std.specs.Prelude.{ℕ, ◌==◌}
+use Rattle.std.specs.Prelude.{ℕ, ◌==◌, Option, Some, None}
 use Rattle.base.specs.Tests.{pick}
 use Rattle.parts.specs.declared.stage.BatchKind.{BatchKind}
 use Rattle.parts.specs.declared.stage.BatchKind.TheVariants.{Batch, BatchAndPop}
-use Rattle.parts.specs.declared.stage.InHand.{InHand}
-use Rattle.parts.specs.declared.stage.InHand.TheVariants.{Nothing, Job}
 use Rattle.parts.specs.declared.stage.Wanted.{Wanted}
 use Rattle.parts.specs.declared.stage.Haul.{Haul}
 use Rattle.slots.specs.declared.StageWords.{StageWords}
@@ -21,16 +19,16 @@ abbrev pub with_kind : BatchKind → StageWords → StageWords
 with_kind k w = slots w.operation w.number (kind_word k) w.step w.f w.b w.n w.i w.end w.job w.far w.hand w.held w.ring w.place w.capacity
 
 -- whether a job is in hand, and that job
-abbrev pub hand_word : InHand → ℕ
-hand_word Nothing = 0
-hand_word (Job job) = 1
+abbrev pub hand_word : Option ℕ → ℕ
+hand_word None = 0
+hand_word (Some job) = 1
 
-abbrev pub held_word : InHand → ℕ
-held_word Nothing = 0
-held_word (Job job) = job
+abbrev pub held_word : Option ℕ → ℕ
+held_word None = 0
+held_word (Some job) = job
 
-abbrev pub hand_of : ℕ → ℕ → InHand
-hand_of hand held = pick (hand == 0) Nothing (Job held)
+abbrev pub hand_of : ℕ → ℕ → Option ℕ
+hand_of hand held = pick (hand == 0) None (Some held)
 
 abbrev pub with_wanted : Wanted → StageWords → StageWords
 with_wanted h w = slots w.operation w.number (kind_word h.kind) w.step (index_word h.f) w.b h.n w.i w.end w.job w.far w.hand w.held w.ring w.place w.capacity

@@ -1,5 +1,6 @@
 -- The words of queues and stages in a longer row of words: three counts, six words for each queue, sixteen for each thread.
-use Rattle.std.specs.Prelude.{ℕ, ◌+◌, Bool, false, ◌&&◌, List, [], ◌∷◌, length, ◌==◌, slice_index, slice_set}
+use Rattle.std.specs.Prelude.{ℕ, zero, suc, ◌+◌, Bool, false, ◌&&◌, List, [], ◌∷◌, length, ◌==◌, slice_index, slice_set}
+use Rattle.std.specs.List.{list_all}
 use Rattle.base.specs.Tests.{pick}
 use Rattle.slots.specs.declared.queue.QueueWords.{QueueWords}
 use Rattle.slots.specs.declared.StageWords.{StageWords}
@@ -41,18 +42,21 @@ stage_in l at = record {
   capacity = slice_index l (at + 15);
 }
 
-abbrev pub put_queue : List ℕ → ℕ → QueueWords → List ℕ
-put_queue l at w = slice_set (slice_set (slice_set (slice_set (slice_set (slice_set l (at + 0) w.flavor) (at + 1) w.front) (at + 2) w.back) (at + 3) w.number) (at + 4) w.place) (at + 5) w.capacity
+-- the first k words of a row, put from one place on
+abbrev pub put_first : ℕ → List ℕ → ℕ → List ℕ → List ℕ
+put_first zero l at row = l
+put_first (suc k) l at row = slice_set (put_first k l at row) (at + k) (slice_index row k)
 
-abbrev pub put_four : List ℕ → ℕ → ℕ → List ℕ → List ℕ
-put_four l at k four =
-    slice_set (slice_set (slice_set (slice_set l (at + k) (slice_index four 0)) (at + (k + 1)) (slice_index four 1)) (at + (k + 2)) (slice_index four 2)) (at + (k + 3)) (slice_index four 3)
+abbrev pub put_row : List ℕ → ℕ → List ℕ → List ℕ
+put_row l at row = put_first (length row) l at row
+
+abbrev pub put_queue : List ℕ → ℕ → QueueWords → List ℕ
+put_queue l at w = put_row l at (w.flavor ∷ w.front ∷ w.back ∷ w.number ∷ w.place ∷ w.capacity ∷ [])
 
 abbrev pub put_stage : List ℕ → ℕ → StageWords → List ℕ
 put_stage l at w =
-    put_four (put_four (put_four (put_four l at 0 (w.operation ∷ w.number ∷ w.kind ∷ w.step ∷ [])) at 4 (w.f ∷ w.b ∷ w.n ∷ w.i ∷ [])) at 8
-    (w.end ∷ w.job ∷ w.far ∷ w.hand ∷ [])) at 12
-    (w.held ∷ w.ring ∷ w.place ∷ w.capacity ∷ [])
+    put_row l at
+    (w.operation ∷ w.number ∷ w.kind ∷ w.step ∷ w.f ∷ w.b ∷ w.n ∷ w.i ∷ w.end ∷ w.job ∷ w.far ∷ w.hand ∷ w.held ∷ w.ring ∷ w.place ∷ w.capacity ∷ [])
 
 -- words that are read as a queue whose words they are; and so of a stage
 abbrev pub queue_b : QueueWords → Bool
@@ -61,10 +65,13 @@ queue_b w = same_queue_b w (queue_words (queue_of w))
 abbrev pub stage_b : StageWords → Bool
 stage_b w = same_stage_b w (stage_words (stage_of w))
 
+-- of each queue and of each thread of a machine
+abbrev pub queues_b : List ℕ → Bool
+queues_b l = list_all (λ at. queue_b (queue_in l at)) (3 ∷ 9 ∷ 15 ∷ 21 ∷ [])
+
+abbrev pub stages_b : List ℕ → Bool
+stages_b l = list_all (λ at. stage_b (stage_in l at)) (27 ∷ 43 ∷ 59 ∷ 75 ∷ [])
+
 -- words that a machine has, sound or not
 unfoldable pub machine_b : List ℕ → Bool
-machine_b l =
-    pick (length l == machine_size)
-    ((queue_b (queue_in l 3) && (queue_b (queue_in l 9) && (queue_b (queue_in l 15) && queue_b (queue_in l 21)))) &&
-    (stage_b (stage_in l 27) && (stage_b (stage_in l 43) && (stage_b (stage_in l 59) && stage_b (stage_in l 75)))))
-    false
+machine_b l = pick (length l == machine_size) (queues_b l && stages_b l) false

@@ -2,91 +2,90 @@
 ghost use Rattle.std.specs.Prelude.{◌≡◌};
 ghost use Rattle.words.specs.Batch.{kind_word, kind_of, hand_word, held_word, hand_of, with_wanted, wanted_of, with_haul, haul_of};
 
-use parts::stage::{BatchKind, Haul, InHand, Wanted};
-use slots::{StageWords, index_of, index_word};
+use crate::InWords;
+use index::Index;
+use parts::stage::{BatchKind, Haul, Wanted};
+use slots::StageWords;
 
-pub fn kind_word(kind: BatchKind) -> u64
-    ensures value { result ≡ kind_word kind }
-    ensures result_value { kind_of result ≡ kind }
-{
-    match kind {
-        BatchKind::Batch => 0,
-        BatchKind::BatchAndPop => 1,
+impl InWords for BatchKind {
+    type Words = u64;
+
+    ghost words_of = { kind_word };
+
+    ghost read_of = { kind_of };
+
+    fn to_words(self) -> u64 {
+        match self {
+            BatchKind::Batch => 0,
+            BatchKind::BatchAndPop => 1,
+        }
+    }
+
+    fn from_words(words: u64) -> BatchKind {
+        match words {
+            0 => BatchKind::Batch,
+            _ => BatchKind::BatchAndPop,
+        }
     }
 }
 
-pub fn kind_of(u: u64) -> BatchKind
-    ensures { result ≡ kind_of u }
-{
-    if u == 0 {
-        return BatchKind::Batch;
-    }
-    BatchKind::BatchAndPop
-}
-
-fn hand_word(hand: InHand) -> u64
+fn hand_word(hand: Option<u64>) -> u64
     ensures { result ≡ hand_word hand }
 {
-    match hand {
-        InHand::Nothing => 0,
-        InHand::Job(_) => 1,
-    }
+    u64::from(hand.is_some())
 }
 
-fn held_word(hand: InHand) -> u64
+fn held_word(hand: Option<u64>) -> u64
     ensures { result ≡ held_word hand }
 {
-    match hand {
-        InHand::Nothing => 0,
-        InHand::Job(job) => job,
-    }
+    hand.unwrap_or(0)
 }
 
-fn hand_of(hand: u64, held: u64) -> InHand
+fn hand_of(hand: u64, held: u64) -> Option<u64>
     ensures { result ≡ hand_of hand held }
 {
     if hand == 0 {
-        return InHand::Nothing;
+        return None;
     }
-    InHand::Job(held)
+    Some(held)
 }
 
-pub fn with_wanted(mut w: StageWords, wanted: Wanted) -> StageWords
+// A wish and a haul are a part of a stage's words, beside its step: they are put into those, and have none of their own.
+pub fn with_wanted(w: StageWords, wanted: Wanted) -> StageWords
     ensures value { result ≡ with_wanted wanted w }
-    ensures result_value { wanted_of result ≡ wanted }
+    ensures read_again { wanted_of result ≡ wanted }
 {
-    let kind = wanted.kind;
-    let f = wanted.f;
-    w.kind = kind_word(kind);
-    w.f = index_word(f);
-    w.n = wanted.n;
-    w
+    StageWords {
+        kind: wanted.kind.to_words(),
+        f: wanted.f.to_words(),
+        n: wanted.n,
+        ..w
+    }
 }
 
 pub fn wanted_of(w: StageWords) -> Wanted
     ensures { result ≡ wanted_of w }
 {
     Wanted {
-        kind: kind_of(w.kind),
-        f: index_of(w.f),
+        kind: BatchKind::from_words(w.kind),
+        f: Index::from_words(w.f),
         n: w.n,
     }
 }
 
-pub fn with_haul(mut w: StageWords, haul: Haul) -> StageWords
+pub fn with_haul(w: StageWords, haul: Haul) -> StageWords
     ensures value { result ≡ with_haul haul w }
-    ensures result_value { haul_of result ≡ haul }
+    ensures read_again { haul_of result ≡ haul }
 {
-    let ring = haul.ring;
-    let f = haul.f;
-    let b = haul.b;
-    let hand = haul.in_hand;
-    w.f = index_word(f);
-    w.b = index_word(b);
-    w.n = haul.n;
-    w.hand = hand_word(hand);
-    w.held = held_word(hand);
-    w.with_ring(ring)
+    StageWords {
+        f: haul.f.to_words(),
+        b: haul.b.to_words(),
+        n: haul.n,
+        hand: hand_word(haul.in_hand),
+        held: held_word(haul.in_hand),
+        ..w
+    }
+    .with_ring(haul.ring)
 }
 
 pub fn haul_of(w: StageWords) -> Haul
@@ -94,9 +93,9 @@ pub fn haul_of(w: StageWords) -> Haul
 {
     Haul {
         ring: w.ring_of(),
-        f: index_of(w.f),
+        f: Index::from_words(w.f),
         n: w.n,
-        b: index_of(w.b),
+        b: Index::from_words(w.b),
         in_hand: hand_of(w.hand, w.held),
     }
 }

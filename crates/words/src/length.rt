@@ -1,33 +1,34 @@
 // A length, and a batch from the own queue, as words: steps 0 and 1.
-ghost use Rattle.std.specs.Prelude.{◌≡◌};
 ghost use Rattle.words.specs.Length.{length_words, length_of};
 
+use crate::InWords;
+use index::Index;
 use parts::stage::LengthStage;
-use slots::{StageWords, index_of, index_word};
+use slots::StageWords;
 
-pub fn length_words(at: LengthStage) -> StageWords
-    ensures value { result ≡ length_words at }
-    ensures result_value { length_of result ≡ at }
-{
-    let mut w = StageWords::bare(0);
-    match at {
-        LengthStage::LoadBack => {
-            return w;
-        }
-        LengthStage::LoadFront { b } => {
-            w.step = 1;
-            w.b = index_word(b);
-            return w;
+impl InWords for LengthStage {
+    type Words = StageWords;
+
+    ghost words_of = { length_words };
+
+    ghost read_of = { length_of };
+
+    fn to_words(self) -> StageWords {
+        match self {
+            LengthStage::LoadBack => StageWords::bare(0),
+            LengthStage::LoadFront { b } => StageWords {
+                b: b.to_words(),
+                ..StageWords::bare(1)
+            },
         }
     }
-}
 
-pub fn length_of(w: StageWords) -> LengthStage
-    ensures { result ≡ length_of w }
-{
-    let step = w.step;
-    if step == 0 {
-        return LengthStage::LoadBack;
+    fn from_words(words: StageWords) -> LengthStage {
+        match words.step {
+            0 => LengthStage::LoadBack,
+            _ => LengthStage::LoadFront {
+                b: Index::from_words(words.b),
+            },
+        }
     }
-    LengthStage::LoadFront { b: index_of(w.b) }
 }

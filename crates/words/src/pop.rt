@@ -1,203 +1,169 @@
 // A pop as words: from a FIFO queue steps 0 to 4, a shrink those of a resize, from a LIFO queue steps 20 to 28.
-ghost use Rattle.std.specs.Prelude.{◌≡◌};
 ghost use Rattle.words.specs.Pop.{popper_word, popper_of, fifo_words, fifo_of, lifo_words, lifo_of, pop_words, pop_of};
 
-use crate::resize::{resize_of, resize_words};
-use parts::stage::{FifoPopStage, LifoPopStage, PopStage, Popper};
-use slots::{StageWords, index_of, index_word};
+use crate::InWords;
+use index::Index;
+use parts::stage::{FifoPopStage, LifoPopStage, PopStage, Popper, ResizeStage};
+use slots::StageWords;
 
-pub fn popper_word(by: Popper) -> u64
-    ensures value { result ≡ popper_word by }
-    ensures result_value { popper_of result ≡ by }
-{
-    match by {
-        Popper::Pop => 0,
-        Popper::BatchAndPop => 1,
+impl InWords for Popper {
+    type Words = u64;
+
+    ghost words_of = { popper_word };
+
+    ghost read_of = { popper_of };
+
+    fn to_words(self) -> u64 {
+        match self {
+            Popper::Pop => 0,
+            Popper::BatchAndPop => 1,
+        }
     }
-}
 
-pub fn popper_of(u: u64) -> Popper
-    ensures { result ≡ popper_of u }
-{
-    if u == 0 {
-        return Popper::Pop;
-    }
-    Popper::BatchAndPop
-}
-
-pub fn fifo_words(at: FifoPopStage) -> StageWords
-    ensures value { result ≡ fifo_words at }
-    ensures result_value { fifo_of result ≡ at }
-{
-    let mut w = StageWords::bare(0);
-    match at {
-        FifoPopStage::LoadBack => {
-            return w;
-        }
-        FifoPopStage::LoadFront { b } => {
-            w.step = 1;
-            w.b = index_word(b);
-            return w;
-        }
-        FifoPopStage::FetchAdd { b, others } => {
-            w.step = 2;
-            w.b = index_word(b);
-            w.n = others;
-            return w;
-        }
-        FifoPopStage::RestoreFront { f } => {
-            w.step = 3;
-            w.f = index_word(f);
-            return w;
-        }
-        FifoPopStage::Read { f, others } => {
-            w.step = 4;
-            w.f = index_word(f);
-            w.n = others;
-            return w;
+    fn from_words(words: u64) -> Popper {
+        match words {
+            0 => Popper::Pop,
+            _ => Popper::BatchAndPop,
         }
     }
 }
 
-pub fn fifo_of(w: StageWords) -> FifoPopStage
-    ensures { result ≡ fifo_of w }
-{
-    let step = w.step;
-    let b = index_of(w.b);
-    let f = index_of(w.f);
-    if step == 0 {
-        return FifoPopStage::LoadBack;
-    }
-    if step == 1 {
-        return FifoPopStage::LoadFront { b };
-    }
-    if step == 2 {
-        return FifoPopStage::FetchAdd { b, others: w.n };
-    }
-    if step == 3 {
-        return FifoPopStage::RestoreFront { f };
-    }
-    FifoPopStage::Read { f, others: w.n }
-}
+impl InWords for FifoPopStage {
+    type Words = StageWords;
 
-pub fn lifo_words(at: LifoPopStage) -> StageWords
-    ensures value { result ≡ lifo_words at }
-    ensures result_value { lifo_of result ≡ at }
-{
-    let mut w = StageWords::bare(20);
-    match at {
-        LifoPopStage::LoadBack => {
-            return w;
+    ghost words_of = { fifo_words };
+
+    ghost read_of = { fifo_of };
+
+    fn to_words(self) -> StageWords {
+        match self {
+            FifoPopStage::LoadBack => StageWords::bare(0),
+            FifoPopStage::LoadFront { b } => StageWords {
+                b: b.to_words(),
+                ..StageWords::bare(1)
+            },
+            FifoPopStage::FetchAdd { b, others } => StageWords {
+                b: b.to_words(),
+                n: others,
+                ..StageWords::bare(2)
+            },
+            FifoPopStage::RestoreFront { f } => StageWords {
+                f: f.to_words(),
+                ..StageWords::bare(3)
+            },
+            FifoPopStage::Read { f, others } => StageWords {
+                f: f.to_words(),
+                n: others,
+                ..StageWords::bare(4)
+            },
         }
-        LifoPopStage::LoadFront { b } => {
-            w.step = 21;
-            w.b = index_word(b);
-            return w;
-        }
-        LifoPopStage::StoreBack { b } => {
-            w.step = 22;
-            w.b = index_word(b);
-            return w;
-        }
-        LifoPopStage::ReloadFront { b } => {
-            w.step = 23;
-            w.b = index_word(b);
-            return w;
-        }
-        LifoPopStage::RestoreBack { b } => {
-            w.step = 24;
-            w.b = index_word(b);
-            return w;
-        }
-        LifoPopStage::ReadLast { b } => {
-            w.step = 25;
-            w.b = index_word(b);
-            return w;
-        }
-        LifoPopStage::Exchange { b, job } => {
-            w.step = 26;
-            w.b = index_word(b);
-            w.job = job;
-            return w;
-        }
-        LifoPopStage::RestoreBackWon { b, job } => {
-            w.step = 27;
-            w.b = index_word(b);
-            w.job = job;
-            return w;
-        }
-        LifoPopStage::Read { b, others } => {
-            w.step = 28;
-            w.b = index_word(b);
-            w.n = others;
-            return w;
+    }
+
+    fn from_words(words: StageWords) -> FifoPopStage {
+        let b = Index::from_words(words.b);
+        let f = Index::from_words(words.f);
+        let others = words.n;
+        match words.step {
+            0 => FifoPopStage::LoadBack,
+            1 => FifoPopStage::LoadFront { b },
+            2 => FifoPopStage::FetchAdd { b, others },
+            3 => FifoPopStage::RestoreFront { f },
+            _ => FifoPopStage::Read { f, others },
         }
     }
 }
 
-pub fn lifo_of(w: StageWords) -> LifoPopStage
-    ensures { result ≡ lifo_of w }
-{
-    let step = w.step;
-    let b = index_of(w.b);
-    if step == 20 {
-        return LifoPopStage::LoadBack;
+impl InWords for LifoPopStage {
+    type Words = StageWords;
+
+    ghost words_of = { lifo_words };
+
+    ghost read_of = { lifo_of };
+
+    fn to_words(self) -> StageWords {
+        match self {
+            LifoPopStage::LoadBack => StageWords::bare(20),
+            LifoPopStage::LoadFront { b } => StageWords {
+                b: b.to_words(),
+                ..StageWords::bare(21)
+            },
+            LifoPopStage::StoreBack { b } => StageWords {
+                b: b.to_words(),
+                ..StageWords::bare(22)
+            },
+            LifoPopStage::ReloadFront { b } => StageWords {
+                b: b.to_words(),
+                ..StageWords::bare(23)
+            },
+            LifoPopStage::RestoreBack { b } => StageWords {
+                b: b.to_words(),
+                ..StageWords::bare(24)
+            },
+            LifoPopStage::ReadLast { b } => StageWords {
+                b: b.to_words(),
+                ..StageWords::bare(25)
+            },
+            LifoPopStage::Exchange { b, job } => StageWords {
+                b: b.to_words(),
+                job,
+                ..StageWords::bare(26)
+            },
+            LifoPopStage::RestoreBackWon { b, job } => StageWords {
+                b: b.to_words(),
+                job,
+                ..StageWords::bare(27)
+            },
+            LifoPopStage::Read { b, others } => StageWords {
+                b: b.to_words(),
+                n: others,
+                ..StageWords::bare(28)
+            },
+        }
     }
-    if step == 21 {
-        return LifoPopStage::LoadFront { b };
+
+    fn from_words(words: StageWords) -> LifoPopStage {
+        let b = Index::from_words(words.b);
+        let job = words.job;
+        match words.step {
+            20 => LifoPopStage::LoadBack,
+            21 => LifoPopStage::LoadFront { b },
+            22 => LifoPopStage::StoreBack { b },
+            23 => LifoPopStage::ReloadFront { b },
+            24 => LifoPopStage::RestoreBack { b },
+            25 => LifoPopStage::ReadLast { b },
+            26 => LifoPopStage::Exchange { b, job },
+            27 => LifoPopStage::RestoreBackWon { b, job },
+            _ => LifoPopStage::Read { b, others: words.n },
+        }
     }
-    if step == 22 {
-        return LifoPopStage::StoreBack { b };
-    }
-    if step == 23 {
-        return LifoPopStage::ReloadFront { b };
-    }
-    if step == 24 {
-        return LifoPopStage::RestoreBack { b };
-    }
-    if step == 25 {
-        return LifoPopStage::ReadLast { b };
-    }
-    if step == 26 {
-        return LifoPopStage::Exchange { b, job: w.job };
-    }
-    if step == 27 {
-        return LifoPopStage::RestoreBackWon { b, job: w.job };
-    }
-    LifoPopStage::Read { b, others: w.n }
 }
 
-pub fn pop_words(at: PopStage) -> StageWords
-    ensures value { result ≡ pop_words at }
-    ensures result_value { pop_of result ≡ at }
-{
-    match at {
-        PopStage::Fifo(at) => {
-            return fifo_words(at);
-        }
-        PopStage::Lifo(at) => {
-            return lifo_words(at);
-        }
-        PopStage::Shrink { job, at } => {
-            let mut w = resize_words(at);
-            w.job = job;
-            return w;
-        }
-    }
-}
+impl InWords for PopStage {
+    type Words = StageWords;
 
-pub fn pop_of(w: StageWords) -> PopStage
-    ensures { result ≡ pop_of w }
-{
-    let step = w.step;
-    if step < 10 {
-        let at = fifo_of(w);
-        return PopStage::Fifo(at);
+    ghost words_of = { pop_words };
+
+    ghost read_of = { pop_of };
+
+    fn to_words(self) -> StageWords {
+        match self {
+            PopStage::Fifo(at) => at.to_words(),
+            PopStage::Lifo(at) => at.to_words(),
+            PopStage::Shrink { job, at } => StageWords {
+                job,
+                ..at.to_words()
+            },
+        }
     }
-    if step < 20 {
-        let at = resize_of(w);
-        return PopStage::Shrink { job: w.job, at };
+
+    fn from_words(words: StageWords) -> PopStage {
+        match words.step {
+            ..10 => PopStage::Fifo(FifoPopStage::from_words(words)),
+            ..20 => PopStage::Shrink {
+                job: words.job,
+                at: ResizeStage::from_words(words),
+            },
+            _ => PopStage::Lifo(LifoPopStage::from_words(words)),
+        }
     }
-    let at = lifo_of(w);
-    PopStage::Lifo(at)
 }

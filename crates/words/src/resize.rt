@@ -1,58 +1,56 @@
 // A resize as words: steps 10 to 13 of a push, a pop and a batch.
-ghost use Rattle.std.specs.Prelude.{◌≡◌};
 ghost use Rattle.words.specs.Resize.{resize_words, resize_of};
 
+use crate::InWords;
+use index::Index;
 use parts::stage::ResizeStage;
-use slots::{StageWords, index_of, index_word};
+use slots::StageWords;
 
-pub fn resize_words(at: ResizeStage) -> StageWords
-    ensures value { result ≡ resize_words at }
-    ensures result_value { resize_of result ≡ at }
-{
-    let mut w = StageWords::bare(10);
-    match at {
-        ResizeStage::LoadBack { capacity } => {
-            w.capacity = capacity as u64;
-            return w;
-        }
-        ResizeStage::LoadFront { capacity, b } => {
-            w.step = 11;
-            w.end = index_word(b);
-            w.capacity = capacity as u64;
-            return w;
-        }
-        ResizeStage::Copy { b, i, ring } => {
-            w.step = 12;
-            w.end = index_word(b);
-            w.i = index_word(i);
-            return w.with_ring(ring);
-        }
-        ResizeStage::Swap { ring } => {
-            w.step = 13;
-            return w.with_ring(ring);
-        }
-    }
-}
+impl InWords for ResizeStage {
+    type Words = StageWords;
 
-pub fn resize_of(w: StageWords) -> ResizeStage
-    ensures { result ≡ resize_of w }
-{
-    let step = w.step;
-    let capacity = w.capacity as usize;
-    if step == 10 {
-        return ResizeStage::LoadBack { capacity };
+    ghost words_of = { resize_words };
+
+    ghost read_of = { resize_of };
+
+    fn to_words(self) -> StageWords {
+        match self {
+            ResizeStage::LoadBack { capacity } => StageWords {
+                capacity: capacity as u64,
+                ..StageWords::bare(10)
+            },
+            ResizeStage::LoadFront { capacity, b } => StageWords {
+                end: b.to_words(),
+                capacity: capacity as u64,
+                ..StageWords::bare(11)
+            },
+            ResizeStage::Copy { b, i, ring } => StageWords {
+                end: b.to_words(),
+                i: i.to_words(),
+                ..StageWords::bare(12)
+            }
+            .with_ring(ring),
+            ResizeStage::Swap { ring } => StageWords::bare(13).with_ring(ring),
+        }
     }
-    let b = index_of(w.end);
-    if step == 11 {
-        return ResizeStage::LoadFront { capacity, b };
+
+    fn from_words(words: StageWords) -> ResizeStage {
+        match words.step {
+            10 => ResizeStage::LoadBack {
+                capacity: words.capacity as usize,
+            },
+            11 => ResizeStage::LoadFront {
+                capacity: words.capacity as usize,
+                b: Index::from_words(words.end),
+            },
+            12 => ResizeStage::Copy {
+                b: Index::from_words(words.end),
+                i: Index::from_words(words.i),
+                ring: words.ring_of(),
+            },
+            _ => ResizeStage::Swap {
+                ring: words.ring_of(),
+            },
+        }
     }
-    let ring = w.ring_of();
-    if step == 12 {
-        return ResizeStage::Copy {
-            b,
-            i: index_of(w.i),
-            ring,
-        };
-    }
-    ResizeStage::Swap { ring }
 }

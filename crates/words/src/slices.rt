@@ -1,10 +1,12 @@
 // The words of queues and stages in a longer row of words. Past the row's end a word is 0, and nothing is put.
-ghost use Rattle.std.specs.Prelude.{◌≡◌, ◌+◌, ◌≤◌, slice_index, slice_set};
-ghost use Rattle.words.specs.Slices.{queue_in, stage_in, put_queue, put_four, put_stage, queue_b, stage_b, machine_b};
+ghost use Rattle.std.specs.Prelude.{◌≡◌, ◌+◌, slice_index, slice_set};
+ghost use Rattle.words.specs.Slices.{queue_in, stage_in, put_row, put_queue, put_stage, queues_b, stages_b, machine_b};
 
-use crate::stage::{stage_of, stage_words};
-use slots::queue::{QueueWords, queue_of, queue_words, same_queue};
-use slots::{StageWords, same_stage};
+use crate::InWords;
+use parts::queue::Queue;
+use parts::stage::Stage;
+use slots::StageWords;
+use slots::queue::QueueWords;
 
 // The words of a machine: three counts, six for each queue, sixteen for each thread.
 pub const MACHINE_WORDS: usize = 91;
@@ -12,13 +14,10 @@ pub const MACHINE_WORDS: usize = 91;
 pub fn word(words: &[u64], at: usize, k: usize) -> u64
     ensures { result ≡ slice_index words.now (at + k) }
 {
-    if words.len() <= at {
-        return 0;
+    match at.checked_add(k) {
+        Some(i) => words.get(i).copied().unwrap_or(0),
+        None => 0,
     }
-    if words.len() - at <= k {
-        return 0;
-    }
-    words[at + k]
 }
 
 pub fn queue_in(words: &[u64], at: usize) -> QueueWords
@@ -60,60 +59,84 @@ pub fn stage_in(words: &[u64], at: usize) -> StageWords
 pub fn put_word(words: &mut [u64], at: usize, k: usize, value: u64)
     ensures { words.new ≡ slice_set words.old (at + k) value }
 {
-    if words.len() <= at {
-        return;
+    match at.checked_add(k) {
+        Some(i) if i < words.len() => words[i] = value,
+        _ => {}
     }
-    if words.len() - at <= k {
-        return;
+}
+
+// A row of words, put from one place on.
+fn put_row(words: &mut [u64], at: usize, row: &[u64])
+    ensures { words.new ≡ put_row words.old at row.now }
+{
+    for (k, &word) in row.iter().enumerate() {
+        put_word(words, at, k, word);
     }
-    words[at + k] = value;
 }
 
 pub fn put_queue(words: &mut [u64], at: usize, w: QueueWords)
     ensures { words.new ≡ put_queue words.old at w }
 {
-    put_word(words, at, 0, w.flavor);
-    put_word(words, at, 1, w.front);
-    put_word(words, at, 2, w.back);
-    put_word(words, at, 3, w.number);
-    put_word(words, at, 4, w.place);
-    put_word(words, at, 5, w.capacity);
-}
-
-// Four words of a stage, from its k-th on.
-fn put_four(words: &mut [u64], at: usize, k: usize, four: [u64; 4])
-    requires { k ≤ 12 }
-    ensures { words.new ≡ put_four words.old at k four }
-{
-    put_word(words, at, k, four[0]);
-    put_word(words, at, k + 1, four[1]);
-    put_word(words, at, k + 2, four[2]);
-    put_word(words, at, k + 3, four[3]);
+    put_row(
+        words,
+        at,
+        &[w.flavor, w.front, w.back, w.number, w.place, w.capacity],
+    );
 }
 
 pub fn put_stage(words: &mut [u64], at: usize, w: StageWords)
     ensures { words.new ≡ put_stage words.old at w }
 {
-    put_four(words, at, 0, [w.operation, w.number, w.kind, w.step]);
-    put_four(words, at, 4, [w.f, w.b, w.n, w.i]);
-    put_four(words, at, 8, [w.end, w.job, w.far, w.hand]);
-    put_four(words, at, 12, [w.held, w.ring, w.place, w.capacity]);
+    put_row(
+        words,
+        at,
+        &[
+            w.operation,
+            w.number,
+            w.kind,
+            w.step,
+            w.f,
+            w.b,
+            w.n,
+            w.i,
+            w.end,
+            w.job,
+            w.far,
+            w.hand,
+            w.held,
+            w.ring,
+            w.place,
+            w.capacity,
+        ],
+    );
 }
 
-// Words that a queue has.
-fn is_queue(words: &[u64], at: usize) -> bool
-    ensures { result ≡ queue_b (queue_in words.now at) }
+// Words that a T has: those of what they are read as.
+fn is_own<T>(words: T::Words) -> bool
+where
+    T: InWords,
+    T::Words: Copy + PartialEq,
+    ensures { result ≡ T.Words.eq words (T.words_of (T.read_of words)) }
 {
-    let w = queue_in(words, at);
-    same_queue(w, queue_words(queue_of(w)))
+    words == T::from_words(words).to_words()
 }
 
-// Words that a stage has.
-fn is_stage(words: &[u64], at: usize) -> bool
-    ensures { result ≡ stage_b (stage_in words.now at) }
+// Words that queues have, where the machine's stand.
+fn are_queues(words: &[u64]) -> bool
+    ensures { result ≡ queues_b words.now }
 {
-    let w = stage_in(words, at);
-    same_stage(w, stage_words(stage_of(w)))
+    [3, 9, 15, 21]
+        .iter()
+        .all(|&at| is_own::<Queue>(queue_in(words, at)))
+}
+
+// Words that stages have, where the machine's stand.
+fn are_stages(words: &[u64]) -> bool
+    ensures { result ≡ stages_b words.now }
+{
+    [27, 43, 59, 75]
+        .iter()
+        .all(|&at| is_own::<Stage>(stage_in(words, at)))
 }
 
 // Words that a machine has, sound or not.
@@ -121,10 +144,5 @@ fn is_stage(words: &[u64], at: usize) -> bool
 pub fn is_machine(words: &[u64]) -> bool
     ensures { result ≡ machine_b words.now }
 {
-    if words.len() != MACHINE_WORDS {
-        return false;
-    }
-    (is_queue(words, 3) & (is_queue(words, 9) & (is_queue(words, 15) & is_queue(words, 21))))
-        & (is_stage(words, 27)
-            & (is_stage(words, 43) & (is_stage(words, 59) & is_stage(words, 75))))
+    words.len() == MACHINE_WORDS && are_queues(words) && are_stages(words)
 }

@@ -1,77 +1,60 @@
 // A steal as words: steps 0 to 5.
-ghost use Rattle.std.specs.Prelude.{◌≡◌};
 ghost use Rattle.words.specs.Stealing.{steal_words, steal_of};
 
+use crate::InWords;
+use index::Index;
 use parts::stage::StealStage;
-use slots::{StageWords, index_of, index_word};
+use slots::StageWords;
 
-pub fn steal_words(at: StealStage) -> StageWords
-    ensures value { result ≡ steal_words at }
-    ensures result_value { steal_of result ≡ at }
-{
-    let mut w = StageWords::bare(0);
-    match at {
-        StealStage::LoadFront => {
-            return w;
-        }
-        StealStage::LoadBack { f } => {
-            w.step = 1;
-            w.f = index_word(f);
-            return w;
-        }
-        StealStage::LoadRing { f } => {
-            w.step = 2;
-            w.f = index_word(f);
-            return w;
-        }
-        StealStage::Read { f, ring } => {
-            w.step = 3;
-            w.f = index_word(f);
-            return w.with_ring(ring);
-        }
-        StealStage::ReloadRing { f, ring, job } => {
-            w.step = 4;
-            w.f = index_word(f);
-            w.job = job;
-            return w.with_ring(ring);
-        }
-        StealStage::Exchange { f, ring, job } => {
-            w.step = 5;
-            w.f = index_word(f);
-            w.job = job;
-            return w.with_ring(ring);
-        }
-    }
-}
+impl InWords for StealStage {
+    type Words = StageWords;
 
-pub fn steal_of(w: StageWords) -> StealStage
-    ensures { result ≡ steal_of w }
-{
-    let step = w.step;
-    if step == 0 {
-        return StealStage::LoadFront;
+    ghost words_of = { steal_words };
+
+    ghost read_of = { steal_of };
+
+    fn to_words(self) -> StageWords {
+        match self {
+            StealStage::LoadFront => StageWords::bare(0),
+            StealStage::LoadBack { f } => StageWords {
+                f: f.to_words(),
+                ..StageWords::bare(1)
+            },
+            StealStage::LoadRing { f } => StageWords {
+                f: f.to_words(),
+                ..StageWords::bare(2)
+            },
+            StealStage::Read { f, ring } => StageWords {
+                f: f.to_words(),
+                ..StageWords::bare(3)
+            }
+            .with_ring(ring),
+            StealStage::ReloadRing { f, ring, job } => StageWords {
+                f: f.to_words(),
+                job,
+                ..StageWords::bare(4)
+            }
+            .with_ring(ring),
+            StealStage::Exchange { f, ring, job } => StageWords {
+                f: f.to_words(),
+                job,
+                ..StageWords::bare(5)
+            }
+            .with_ring(ring),
+        }
     }
-    let f = index_of(w.f);
-    if step == 1 {
-        return StealStage::LoadBack { f };
-    }
-    if step == 2 {
-        return StealStage::LoadRing { f };
-    }
-    let ring = w.ring_of();
-    if step == 3 {
-        return StealStage::Read { f, ring };
-    }
-    if step == 4 {
-        return StealStage::ReloadRing {
-            f,
-            ring,
-            job: w.job,
-        };
-    }
-    StealStage::Exchange {
-        f,
-        ring,
-        job: w.job,
+
+    fn from_words(words: StageWords) -> StealStage {
+        let f = Index::from_words(words.f);
+        let ring = words.ring_of();
+        let job = words.job;
+        match words.step {
+            0 => StealStage::LoadFront,
+            1 => StealStage::LoadBack { f },
+            2 => StealStage::LoadRing { f },
+            3 => StealStage::Read { f, ring },
+            4 => StealStage::ReloadRing { f, ring, job },
+            _ => StealStage::Exchange { f, ring, job },
+        }
     }
 }

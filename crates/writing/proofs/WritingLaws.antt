@@ -1,33 +1,23 @@
 -- What is known of text put on a page.
-use Rattle.std.proofs.Common.{◌≡◌, refl, sym, ap, ◌∙◌, List, [], ◌∷◌, ◌++◌, ℕ, zero, suc, ◌+◌, ◌*◌, ◌/◌, ◌%◌, ◌^◌, ◌≤◌, ◌<◌, ℤ, pos, negsuc, ⊎_elim, length, length-append, length-set, drop, get_or, set, drop_of_length-le, drop-cons, add-one, arith, ltb, lt-ltb, le-ltb}
+use Rattle.std.proofs.Common.{◌≡◌, refl, sym, ap, ◌∙◌, List, [], ◌∷◌, ◌++◌, ℕ, zero, suc, ◌+◌, ◌*◌, ◌/◌, ◌%◌, ◌^◌, ◌≤◌, ◌<◌, ℤ, pos, negsuc, ⊎_elim, length, length-append, length-set, take, get_or, set, add-one, arith, ltb, lt-ltb, le-ltb}
+use Rattle.std.proofs.lemmas.List.{take_more}
 use lib.Seq.{set_out, sets, sets-eq}
-use Rattle.base.specs.Tests.{pick, le_or_lt, by_test, tests}
-use Rattle.writing.specs.Writing.{Page, page, put, whole, width_from, last_digits, decimal, signed}
-
-pub put_none : (p : List ℕ) (at : ℕ) → put p at [] ≡ page p at
-unfolding put
-put_none p at = refl
+use Rattle.base.specs.Tests.{pick, le_or_lt, by_test}
+use Rattle.writing.specs.declared.Page.{Page}
+use Rattle.writing.specs.Writing.{printed, put, holding, put_on, whole, width_from, last_digits, decimal, signed}
 
 -- a byte on the page is stored; one behind its end is left out
-pub put_on : (p : List ℕ) (at b : ℕ) → at < length p → put p at (b ∷ []) ≡ page (set p at b) (at + 1)
-unfolding put
-put_on p at b h = rw (lt-ltb _ _ h)
+pub byte_on : (p : Page) (b : ℕ) → p.at < length p.bytes.now → put_on p (b ∷ []) ≡ holding p (printed (set p.bytes.now p.at b) (p.at + 1))
+unfolding put_on put
+byte_on p b h = rw (lt-ltb _ _ h)
 
-pub put_off : (p : List ℕ) (at b : ℕ) → length p ≤ at → put p at (b ∷ []) ≡ page p (length p)
-unfolding put
-put_off p at b h = rw (le-ltb _ _ h, set_out p at b h)
+pub byte_off : (p : Page) (b : ℕ) → length p.bytes.now ≤ p.at → put_on p (b ∷ []) ≡ holding p (printed p.bytes.now (length p.bytes.now))
+unfolding put_on put
+byte_off p b h = rw (le-ltb _ _ h, set_out p.bytes.now p.at b h)
 
--- a text put byte by byte
-pub put_rest : (p : List ℕ) (at : ℕ) (text : List ℕ) (i : ℕ) → length text ≤ i → put p at (drop i text) ≡ page p at
-unfolding put
-put_rest p at text i h = rw (drop_of_length-le text h)
-
-pub put_next : (p : List ℕ) (at : ℕ) (text : List ℕ) (i : ℕ) (p' : List ℕ) (at' : ℕ) → i < length text → page p' at' ≡ put p at (get_or text i 0 ∷ []) →
-    put p' at' (drop (i + 1) text) ≡ put p at (drop i text)
-unfolding put
-put_next p at text i p' at' l e =
-    let s : i + 1 ≡ suc i = add-one i in
-    rw (drop-cons text i 0 l, s) (ap (λ (w : Page). put w.bytes w.at (drop (suc i) text)) e)
+pub put_none : (p : Page) → put_on p [] ≡ p
+unfolding put_on put
+put_none p = refl
 
 -- one text behind the other
 put_append : (p : List ℕ) (at : ℕ) (xs ys : List ℕ) → put (put p at xs).bytes (put p at xs).at ys ≡ put p at (xs ++ ys)
@@ -35,31 +25,26 @@ unfolding put
 put_append p at [] ys = refl
 put_append p at (x ∷ xs) ys = put_append (set p at x) (pick (ltb at (length p)) (at + 1) (length p)) xs ys
 
-pub put_then : (p : List ℕ) (at : ℕ) (xs ys p' : List ℕ) (at' : ℕ) → page p' at' ≡ put p at xs → put p' at' ys ≡ put p at (xs ++ ys)
-put_then p at xs ys p' at' e = ap (λ (w : Page). put w.bytes w.at ys) e ∙ put_append p at xs ys
+pub put_then : (p : Page) (xs ys : List ℕ) → put_on (put_on p xs) ys ≡ put_on p (xs ++ ys)
+unfolding put_on
+put_then p xs ys = ap (holding p) (put_append p.bytes.now p.at xs ys)
 
--- what is put on a page ends on it
-pub put_within : (p : List ℕ) (at : ℕ) (text : List ℕ) → at ≤ length p → (put p at text).at ≤ length p
-unfolding put
-put_within p at [] h = h
-put_within p at (b ∷ bs) h =
-    let n = pick (ltb at (length p)) (at + 1) (length p) in
-    let l : n ≤ length p = by_test (λ (k : ℕ). k ≤ length p) (ltb at (length p)) (at + 1) (length p) (λ t. omega tests) (λ t. omega arith) in
-    let e : length (set p at b) ≡ length p = length-set p at b in
-    let w : n ≤ length (set p at b) = omega arith in
-    let r : (put (set p at b) n bs).at ≤ length (set p at b) = put_within (set p at b) n bs w in omega arith
+-- a text put byte by byte
+pub put_next : (p q : Page) (text : List ℕ) (i : ℕ) → i < length text → q ≡ put_on p (take i text) →
+    put_on q (get_or text i 0 ∷ []) ≡ put_on p (take (i + 1) text)
+put_next p q text i h e = rw (take_more text i 0 h, e) (put_then p (take i text) (get_or text i 0 ∷ []))
 
 -- a text that fits on a page is all put there, and the bytes around it stay
-put_sets : (p : List ℕ) (at : ℕ) (text : List ℕ) → at + length text ≤ length p → put p at text ≡ page (sets p at text) (at + length text)
+put_sets : (p : List ℕ) (at : ℕ) (text : List ℕ) → at + length text ≤ length p → put p at text ≡ printed (sets p at text) (at + length text)
 unfolding put
-put_sets p at [] h = ap (page p) (omega arith)
+put_sets p at [] h = ap (printed p) (omega arith)
 put_sets p at (b ∷ bs) h =
     let s : at + 1 ≡ suc at = add-one at in
     let e : length (set p at b) ≡ length p = length-set p at b in
-    rw (lt-ltb at (length p) (omega arith), s) (put_sets (set p at b) (suc at) bs (omega arith) ∙ ap (page _) (omega arith))
+    rw (lt-ltb at (length p) (omega arith), s) (put_sets (set p at b) (suc at) bs (omega arith) ∙ ap (printed _) (omega arith))
 
 pub put_whole : (p : List ℕ) (at : ℕ) (text : List ℕ) → at + length text ≤ length p → put p at text ≡ whole p at text
-put_whole p at text h = put_sets p at text h ∙ ap (λ (l : List ℕ). page l (at + length text)) (sets-eq text p at h)
+put_whole p at text h = put_sets p at text h ∙ ap (λ (l : List ℕ). printed l (at + length text)) (sets-eq text p at h)
 
 -- ---- numbers: the last digit lies behind those of the tenth
 

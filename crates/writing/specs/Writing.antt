@@ -3,23 +3,35 @@ use Rattle.std.specs.Prelude.{ℕ, zero, suc, ◌+◌, ◌/◌, ◌%◌, ◌^◌
 use Prim.Native.Char.{code}
 use Prim.Native.String.{String, [] as end, ◌∷◌ as ◌then◌}
 use Rattle.base.specs.Tests.{pick}
+use Rattle.writing.specs.declared.Page.{Page}
 
--- the page, and the place behind what was put on it
-pub record Page : Type 0 where
+-- a page's bytes, and the place behind what was put there
+pub record Printed : Type 0 where
   pub bytes : List ℕ
   pub at : ℕ
 
-abbrev pub page : List ℕ → ℕ → Page
-page bytes at = record { bytes = bytes; at = at }
+abbrev pub printed : List ℕ → ℕ → Printed
+printed bytes at = record { bytes = bytes; at = at }
 
 -- bytes put one behind the other from a place on; what lies behind the page's end is left out
-unfoldable pub put : List ℕ → ℕ → List ℕ → Page
-put p at [] = page p at
+unfoldable pub put : List ℕ → ℕ → List ℕ → Printed
+put p at [] = printed p at
 put p at (b ∷ bs) = put (set p at b) (pick (ltb at (length p)) (at + 1) (length p)) bs
 
 -- the page with all of a text on it, from a place on (`put_whole`: so it is where the text fits)
-abbrev pub whole : List ℕ → ℕ → List ℕ → Page
-whole p at text = page (take at p ++ text ++ drop (at + length text) p) (at + length text)
+abbrev pub whole : List ℕ → ℕ → List ℕ → Printed
+whole p at text = printed (take at p ++ text ++ drop (at + length text) p) (at + length text)
+
+-- a page, which holds what it was lent, with this in it
+abbrev pub holding : Page → Printed → Page
+holding p w = record { bytes = record p.bytes { now = w.bytes }; at = w.at }
+
+-- with a text put on it from its place on, or all of the text
+unfoldable pub put_on : Page → List ℕ → Page
+put_on p text = holding p (put p.bytes.now p.at text)
+
+abbrev pub whole_on : Page → List ℕ → Page
+whole_on p text = holding p (whole p.bytes.now p.at text)
 
 -- the codes of a text's characters
 abbrev pub ascii : String → List ℕ

@@ -2,51 +2,56 @@
 #![tactic(auto)]
 
 ghost use Rattle.std.specs.Prelude.{◌≡◌, ◌∷◌, []};
-ghost use Rattle.writing.specs.Writing.{page as page_of, put, decimal, signed};
+ghost use Rattle.writing.specs.Writing.{put_on, decimal, signed};
 
-use index::mag;
-
-// Each of these answers the place behind what it put.
-#[tactic(auto, using(crate::proofs::WritingLaws::put_on, crate::proofs::WritingLaws::put_off))]
-pub fn put_byte(page: &mut [u8], at: usize, byte: u8) -> usize
-    ensures { page_of page.new result ≡ put page.old at (byte ∷ []) }
-{
-    if at < page.len() {
-        page[at] = byte;
-        return at + 1;
-    }
-    page.len()
+// at: the place behind what was put on it.
+#[derive(Drop)]
+pub struct Page<'a> {
+    pub bytes: &'a mut [u8],
+    pub at: usize,
 }
 
-pub fn put_text(page: &mut [u8], at: usize, text: &[u8]) -> usize
-    ensures { page_of page.new result ≡ put page.old at text.now }
-{
-    let mut to = at;
-    let mut i = 0;
-    while i < text.len() {
-        to = put_byte(page, to, text[i]);
-        i += 1;
+impl Page<'_> {
+    #[tactic(auto, using(crate::proofs::WritingLaws::byte_on, crate::proofs::WritingLaws::byte_off))]
+    pub fn put_byte(&mut self, byte: u8)
+        ensures { self.new ≡ put_on self.old (byte ∷ []) }
+    {
+        if self.at < self.bytes.len() {
+            self.bytes[self.at] = byte;
+            self.at += 1;
+        } else {
+            self.at = self.bytes.len();
+        }
     }
-    to
-}
 
-#[tactic(auto, using(crate::proofs::WritingLaws::decimal_one, crate::proofs::WritingLaws::decimal_next, crate::proofs::WritingLaws::put_then))]
-pub fn put_number(page: &mut [u8], at: usize, n: u64) -> usize
-    ensures { page_of page.new result ≡ put page.old at (decimal n) }
-{
-    if n < 10 {
-        return put_byte(page, at, b'0' + n as u8);
+    #[tactic(auto, using(crate::proofs::WritingLaws::put_none, crate::proofs::WritingLaws::put_next))]
+    pub fn put_text(&mut self, text: &[u8])
+        ensures { self.new ≡ put_on self.old text.now }
+    {
+        for &byte in text {
+            self.put_byte(byte);
+        }
     }
-    let next = put_number(page, at, n / 10);
-    put_byte(page, next, b'0' + (n % 10) as u8)
-}
 
-pub fn put_signed(page: &mut [u8], at: usize, z: i64) -> usize
-    ensures { page_of page.new result ≡ put page.old at (signed z) }
-{
-    if z >= 0 {
-        return put_number(page, at, mag(z));
+    #[tactic(auto, using(crate::proofs::WritingLaws::decimal_one, crate::proofs::WritingLaws::decimal_next, crate::proofs::WritingLaws::put_then))]
+    pub fn put_number(&mut self, n: u64)
+        ensures { self.new ≡ put_on self.old (decimal n) }
+    {
+        if n < 10 {
+            self.put_byte(b'0' + n as u8);
+            return;
+        }
+        self.put_number(n / 10);
+        self.put_byte(b'0' + (n % 10) as u8);
     }
-    let next = put_byte(page, at, b'-');
-    put_number(page, next, mag(z) + 1)
+
+    #[tactic(auto, using(crate::proofs::WritingLaws::put_then))]
+    pub fn put_signed(&mut self, z: i64)
+        ensures { self.new ≡ put_on self.old (signed z) }
+    {
+        if z < 0 {
+            self.put_byte(b'-');
+        }
+        self.put_number(z.unsigned_abs());
+    }
 }

@@ -1,8 +1,11 @@
--- The row is that of what the four threads keep, by what its calls ensure.
+-- What `map` ran at each thread is what that thread keeps.
+use Rattle.std.proofs.Common.{rules}
+use Rattle.keeps.specs.declared.Kept.TheVariants.{Nothing}
+use Rattle.machine.specs.State.{idle_thread}
 use Rattle.machine.proofs.KeptLaws.{row_kept}
 use Rattle.machine.proofs.state.Machine.rings_kept.Goals as goal
 
 pub returns : goal.returns
 returns c =
-    rw (c.kept-k3.ensures, c.kept-k2.ensures, c.kept-k1.ensures, c.kept-k0.ensures)
-    (row_kept c.args.self.threads c.well_formed.0.1.1.1.0.1.0.1)
+    row_kept c.args.self c.map.result (search rules) c.map.ensures.items.long
+    (λ t below. let at = c.map.ensures.items.at t idle_thread Nothing below in search rules)

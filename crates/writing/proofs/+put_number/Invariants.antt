@@ -1,5 +1,0 @@
--- A tenth of a number of two digits or more is less.
-use Rattle.writing.proofs.+put_number.Given as goal
-
-abbrev pub decreases-put_number : goal.decreases-put_number
-decreases-put_number l = l.n
