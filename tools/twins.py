@@ -6,7 +6,23 @@ import sys
 
 least = int(sys.argv[1]) if len(sys.argv) > 1 else 24
 token = re.compile(r"b?'(?:\\.|[^\\'])'|b?\"[^\"]*\"|[A-Za-z_]\w*|\d\w*|::|=>|->|[=!<>]=|&&|\|\||\S")
+head = re.compile(r"^( *)(?:pub(?:\(\w+\))? )?(?:extern \"C\" )?fn (\w+)")
 kept = {"match", "if", "else", "let", "mut", "return", "while", "for", "in", "self", "true", "false"}
+
+
+def functions(lines):
+    """Each function's name and body, which begins behind a brace alone in its line or at the end of the head; a declaration has none."""
+    for at, line in enumerate(lines):
+        found = head.match(line)
+        if not found:
+            continue
+        indent, name = found.groups()
+        start = at
+        while not lines[start].endswith((";", "{", "{}")):
+            start += 1
+        if lines[start].endswith("{"):
+            end = lines.index(indent + "}", start)
+            yield name, "\n".join(lines[start + 1 : end])
 
 
 def skeleton(body):
@@ -23,11 +39,10 @@ def skeleton(body):
 
 groups = {}
 for path in subprocess.check_output(["git", "ls-files", "crates/*/src/*.rt"], text=True).split():
-    text = open(path).read()
-    for head in re.finditer(r"^( *)(?:pub(?:\(\w+\))? )?(?:extern \"C\" )?fn (\w+).*?\n\1\{\n(.*?)^\1\}$", text, re.M | re.S):
-        words = skeleton(head.group(3))
+    for name, body in functions(open(path).read().split("\n")):
+        words = skeleton(body)
         if len(words) >= least:
-            groups.setdefault(" ".join(words), []).append(f"{path}:{head.group(2)}")
+            groups.setdefault(" ".join(words), []).append(f"{path}:{name}")
 twins = [names for names in groups.values() if len(names) > 1]
 for names in sorted(twins):
     print(" ".join(names))

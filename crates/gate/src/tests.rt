@@ -1,4 +1,4 @@
-// The tests, in 01's order: setup 2, 1; begin 3, 1, 4 (thread, then source), 5, 7; step 3, 1, 4, 6.
+// The tests, in 01's order (counts come one by one, as in `sound`): setup 2, 1; begin 3, 1, 4 (thread, then source), 5, 7; step 3, 1, 4, 6.
 ghost use Rattle.std.specs.Prelude.{◌≡◌, ◌*◌, ◌==◌};
 ghost use Rattle.cells.specs.Cells.{place_cells};
 ghost use Rattle.gate.specs.Gate.{setup_tests, call_tests, names_b, limit_b, begin_tests, step_tests};

@@ -10,7 +10,7 @@ ghost use Rattle.index.specs.Index.{mod_z, plus_of, minus_of, difference_of, len
 #[derive(Clone, Copy, PartialEq, Eq)]
 pub struct Index(pub i64);
 
-// The number itself where it is not below zero, and otherwise how far it lies below -1.
+// The number itself where it is not below zero, and otherwise how far it lies below -1; the library has no such magnitude.
 pub fn mag(a: i64) -> u64
     ensures { result ≡ magZ a }
 {

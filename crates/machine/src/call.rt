@@ -1,4 +1,4 @@
-// A call of either kind.
+// A call of either kind. A request is data: callers in C send it as numbers.
 ghost use Rattle.std.specs.Prelude.{◌≡◌};
 ghost use Rattle.machine.specs.State.{leaves};
 ghost use Rattle.machine.specs.Call.{call_of};

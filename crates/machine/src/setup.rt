@@ -1,4 +1,4 @@
-// A new machine.
+// A new machine. Count and flavours are setup's own arguments, handed on.
 ghost use Rattle.std.specs.Prelude.{◌≡◌, [], slice_index_or};
 ghost use Rattle.parts.specs.declared.queue.Flavor.TheVariants.{Fifo};
 ghost use Rattle.machine.specs.State.{leaves, after};

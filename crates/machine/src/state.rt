@@ -47,10 +47,7 @@ pub(crate) fn queues_with(mut queues: [Queue; 4], k: usize, q: Queue) -> [Queue;
 pub(crate) fn number_after(next: RingNumber, claim: Claim) -> RingNumber
     ensures { result ≡ number_after next claim }
 {
-    match claim {
-        None => next,
-        Some(claimed) => claimed.number.next(),
-    }
+    claim.map_or(next, |claimed| claimed.number.next())
 }
 
 impl Machine {
@@ -65,10 +62,9 @@ impl Machine {
     pub fn stage(self, t: usize) -> Stage
         ensures { result ≡ stage_at self t }
     {
-        match self.threads.get(t) {
-            Some(thread) => thread.stage,
-            None => Stage::Idle,
-        }
+        self.threads
+            .get(t)
+            .map_or(Stage::Idle, |thread| thread.stage)
     }
 
     // The rings that the threads keep.
@@ -93,6 +89,7 @@ impl Machine {
         }
     }
 
+    // By index, as `queues_with`.
     pub(crate) fn with_stage(mut self, t: usize, stage: Stage) -> Machine
         ensures { result ≡ with_stage self t stage }
     {

@@ -1,4 +1,5 @@
-// What both halves of a batch share: how many jobs it wants, which stage comes next, which cells it works on.
+// What both halves of a batch share: how many jobs it wants, which stage comes next, which cells it works on. The own flavour, the haul and a queue stand
+// side by side in many of these: they are what a step works on, and each takes them apart at once.
 #![tactic(auto)]
 
 ghost use Rattle.std.specs.Prelude.{◌≡◌, ◌+◌};
@@ -14,7 +15,7 @@ use parts::stage::{
 };
 use steal::Steal;
 
-// On to a stage of a part of the batch.
+// On to a stage of a part of the batch: each names one of the stages that the tables go on to most.
 pub fn take_at(q: Queue, haul: Haul, at: TakeStage) -> StepOut<BatchStage>
     ensures { result ≡ take_at q haul at }
 {
@@ -38,11 +39,8 @@ pub fn wanted(kind: BatchKind, d: u64, others: u64) -> u64
     ensures { result ≡ wanted_of kind d others }
 {
     match kind {
-        BatchKind::Batch => {
-            let half = d / 2 + d % 2;
-            if half <= others { half } else { others + 1 }
-        }
-        BatchKind::BatchAndPop => { (d.saturating_sub(1) / 2).min(others) }
+        BatchKind::Batch => d.div_ceil(2).min(others.saturating_add(1)),
+        BatchKind::BatchAndPop => others.min(d.saturating_sub(1) / 2),
     }
 }
 
@@ -106,10 +104,7 @@ pub fn turn_after(n: u64, done: u64) -> Option<u64>
 pub fn first(in_hand: Option<u64>, f: Index) -> Index
     ensures { result ≡ first_of in_hand f }
 {
-    match in_hand {
-        None => f,
-        Some(_) => f.plus(1),
-    }
+    in_hand.map_or(f, |_| f.plus(1))
 }
 
 // Copy the next, or load the ring again.
@@ -193,19 +188,13 @@ pub fn written_after(i: u64) -> u64
 pub fn to_write(in_hand: Option<u64>, job: u64) -> u64
     ensures { result ≡ to_write in_hand job }
 {
-    match in_hand {
-        None => job,
-        Some(previous) => previous,
-    }
+    in_hand.unwrap_or(job)
 }
 
 pub fn next_in_hand(in_hand: Option<u64>, job: u64) -> Option<u64>
     ensures { result ≡ next_in_hand in_hand job }
 {
-    match in_hand {
-        None => None,
-        Some(_previous) => Some(job),
-    }
+    in_hand.and(Some(job))
 }
 
 pub fn answer(in_hand: Option<u64>) -> Answer

@@ -12,7 +12,7 @@ use parts::queue::Queue;
 use parts::stage::{BatchStage, OwnStage, ReserveStage, ResizeStage, Wanted};
 use ring::Ring;
 
-// There is too little room: resize, unless that would be too large.
+// There is too little room: resize, unless that would be too large. As in `op_push`, which says why it stands here too.
 fn growing(wanted: Wanted, q: Queue, to: Option<usize>) -> StepOut<BatchStage>
     ensures { result ≡ growingOf wanted q to }
 {

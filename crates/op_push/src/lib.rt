@@ -13,8 +13,8 @@ use parts::queue::Queue;
 use parts::stage::{PushStage, ResizeStage};
 use ring::Ring;
 
-// The ring is full: grow it, unless that would be too large. A batch grows in the same way, on to stages of its own: one function for both would be handed
-// the stages by a closure, for which a public function would have to ask something of its callers.
+// The ring is full: grow it, unless that would be too large. A batch grows in the same way and a pop shrinks so, each on to stages of its own; a trait for
+// the stages would want a type of its own in each of the three crates, and be longer than these few arms.
 fn growing(b: Index, q: Queue, to: Option<usize>) -> StepOut<PushStage>
     ensures { result ≡ growingOf b q to }
 {

@@ -1,4 +1,4 @@
-// What both pops share: how they answer, and the shrinking.
+// What both pops share: how they answer, and the shrinking. Popper and job are handed on as the stage has them.
 #![tactic(auto)]
 
 ghost use Rattle.std.specs.Prelude.{◌≡◌};
@@ -57,7 +57,7 @@ pub fn reading(few: bool, popper: Popper, job: u64, q: Queue) -> StepOut<PopStag
     StepOut::Ended(q, job_for(popper, job))
 }
 
-// What a pop does with a step of its resize. With no ring to be had it skips the shrink.
+// What a pop does with a step of its resize, as a push does in `op_push`; with no ring to be had it skips the shrink.
 fn shrunk(popper: Popper, job: u64, q: Queue, resized: Resized) -> StepOut<PopStage>
     ensures { result ≡ shrunkOf popper job q resized }
 {

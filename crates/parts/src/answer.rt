@@ -23,7 +23,7 @@ pub enum Shortage {
     NoRing = 9,
 }
 
-// What a call answers.
+// What a call answers. Nothing, gave up and refused stand among the others, as in the table that `told` numbers them by.
 #[derive(Clone, Copy)]
 pub enum Answer {
     // A begin, and a step that is not the last.

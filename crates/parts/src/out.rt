@@ -17,7 +17,7 @@ pub struct Claimed {
 // What a claim found, where the step makes one. Queue, claim and pool are passed one by one: a step takes those that it may look at, and no other.
 pub type Claim = Option<Claimed>;
 
-// What a step of a resize leaves: a further stage; no ring to be had; or the queue with its new ring.
+// What a step of a resize leaves: a further stage; no ring to be had; or the queue with its new ring. Three outcomes, which each operation tells apart.
 #[derive(Clone, Copy)]
 pub enum Resized {
     Stage(ResizeStage),

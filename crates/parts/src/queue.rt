@@ -8,8 +8,8 @@ use ring::{PlaceNumber, Ring, RingNumber};
 // Which end the owner pops. A queue keeps its flavour for life.
 #[derive(Clone, Copy)]
 pub enum Flavor {
-    Fifo,
-    Lifo,
+    Fifo = 0,
+    Lifo = 1,
 }
 
 #[derive(Clone, Copy)]

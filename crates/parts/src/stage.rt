@@ -55,8 +55,8 @@ pub enum PopStage {
 // Who pops: a pop, or a batch and pop from the thread's own queue, which answers as a steal does.
 #[derive(Clone, Copy)]
 pub enum Popper {
-    Pop,
-    BatchAndPop,
+    Pop = 0,
+    BatchAndPop = 1,
 }
 
 // The ring is held from its load until the answer.
@@ -79,8 +79,8 @@ pub enum LengthStage {
 // A batch moves jobs; a batch and pop also answers one.
 #[derive(Clone, Copy)]
 pub enum BatchKind {
-    Batch,
-    BatchAndPop,
+    Batch = 0,
+    BatchAndPop = 1,
 }
 
 // n jobs from f on are wanted for the own queue.

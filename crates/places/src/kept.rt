@@ -8,31 +8,19 @@ use keeps::Kept;
 pub(crate) fn builds_in(kept: Kept, place: usize) -> bool
     ensures { result ≡ builds_in kept place }
 {
-    match kept {
-        Kept::Nothing => false,
-        Kept::Built(ring) => ring.place.0 == place,
-        Kept::Held(_) => false,
-    }
+    matches!(kept, Kept::Built(ring) if ring.place.0 == place)
 }
 
 // Two rings are being built in one place.
 pub(crate) fn both_build(kept: Kept, other: Kept) -> bool
     ensures { result ≡ both_build kept other }
 {
-    match kept {
-        Kept::Nothing => false,
-        Kept::Built(ring) => builds_in(other, ring.place.0),
-        Kept::Held(_) => false,
-    }
+    matches!(kept, Kept::Built(ring) if builds_in(other, ring.place.0))
 }
 
 // A ring is built or held in this place.
 pub(crate) fn keeps_in(kept: Kept, place: usize) -> bool
     ensures { result ≡ keeps_in kept place }
 {
-    match kept {
-        Kept::Nothing => false,
-        Kept::Built(ring) => ring.place.0 == place,
-        Kept::Held(ring) => ring.place.0 == place,
-    }
+    matches!(kept, Kept::Built(ring) | Kept::Held(ring) if ring.place.0 == place)
 }

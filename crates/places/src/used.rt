@@ -20,7 +20,7 @@ impl Rings {
         (0..self.count).any(|i| self.used_by(place, i))
     }
 
-    // The lowest-numbered free place of so many, and their count where none is free.
+    // The lowest-numbered free place of so many, and their count where none is free: no Option, since the claim's definitions go by that number.
     pub fn free_place(self, places: usize) -> usize
         ensures { result ≡ free_place_of (queue_in self.queues) (kept_in self.kept) self.count places }
     {

@@ -40,7 +40,7 @@ fn turn_page(rt: &impl Print, page: &mut Page)
     }
 }
 
-// With room for a line, what is printed is put on the page whole; and so at the text's end.
+// With room for a line, what is printed is put on the page whole; and so at the text's end. What these ask of the page that they are handed, `Game` has.
 fn act_whole(stand: Stand, turn: Turn, pool: &mut [u64], page: &mut Page) -> Stand
     requires { Room page.old }
     ensures { page.new ≡ whole_on page.old (act_text stand turn pool.old) }

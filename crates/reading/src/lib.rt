@@ -147,7 +147,7 @@ impl Reader {
         }
     }
 
-    // One byte more.
+    // One byte more. What the reader stands in is data, no closure: the reader is copied with it.
     #[tactic(auto, unfolding(crate::specs::Reading::heard_of))]
     pub fn byte(self, byte: u8) -> Heard
         ensures { result ≡ heard_of self byte }

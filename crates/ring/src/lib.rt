@@ -63,10 +63,9 @@ impl Ring {
     pub fn holds(capacity: usize, length: u64, more: u64) -> bool
         ensures { result ≡ nat_le (length + more) capacity }
     {
-        match length.checked_add(more) {
-            Some(jobs) => jobs <= capacity as u64,
-            None => false,
-        }
+        length
+            .checked_add(more)
+            .is_some_and(|jobs| jobs <= capacity as u64)
     }
 
     // The smallest capacity that holds so many jobs and so many more, unless that is too large.

@@ -127,6 +127,7 @@ impl Session {
         Session { places, ..self }
     }
 
+    // By index: through `get_mut` the proof did not close.
     fn with_flavor(mut self, read: u64, number: u64) -> Session
         ensures { result ≡ with_flavor self read number }
     {
@@ -183,7 +184,7 @@ impl Session {
         self.to(Awaiting::Thread, Said::Call { thread, request })
     }
 
-    // One number more.
+    // One number more. What is awaited is data, no closure: the session is copied with it.
     #[tactic(auto, unfolding(crate::specs::Grammar::hear_of))]
     pub fn hear(self, number: u64) -> Told
         ensures { result ≡ hear_of self number }

@@ -10,7 +10,6 @@ pub fn kept_sound(places: usize, kept: Kept) -> bool
 {
     match kept {
         Kept::Nothing => true,
-        Kept::Built(ring) => ring_sound(places, ring),
-        Kept::Held(ring) => ring_sound(places, ring),
+        Kept::Built(ring) | Kept::Held(ring) => ring_sound(places, ring),
     }
 }

@@ -1,6 +1,6 @@
 // What soundness asks of what a thread remembers.
 ghost use Rattle.std.specs.Prelude.{◌≡◌};
-ghost use Rattle.sound.specs.Sound.{named_sound, resize_sound, push_sound, pop_sound, wanted_sound, haul_sound, all_sound, one_sound, take_sound, source_sound, reserve_sound, put_sound, own_sound, numbers_sound, stage_sound};
+ghost use Rattle.sound.specs.Sound.{named_sound, resize_sound, wanted_sound, haul_sound, all_sound, one_sound, take_sound, put_sound, numbers_sound, stage_sound};
 
 use crate::kept::kept_sound;
 use keeps::ring_kept;
@@ -15,10 +15,10 @@ fn named_sound(queues: usize, stage: Stage) -> bool
     ensures { result ≡ named_sound queues stage }
 {
     match stage {
-        Stage::Steal(source, _) => source < queues,
-        Stage::Length(queue, _) => queue < queues,
-        Stage::BatchSource(source, _) => source < queues,
-        Stage::BatchOwn(source, _) => source < queues,
+        Stage::Steal(queue, _)
+        | Stage::Length(queue, _)
+        | Stage::BatchSource(queue, _)
+        | Stage::BatchOwn(queue, _) => queue < queues,
         _ => true,
     }
 }
@@ -27,32 +27,10 @@ fn resize_sound(at: ResizeStage) -> bool
     ensures { result ≡ resize_sound at }
 {
     match at {
-        ResizeStage::LoadBack { capacity } => Ring::allowed(capacity),
-        ResizeStage::LoadFront { capacity, .. } => Ring::allowed(capacity),
-        ResizeStage::Copy { .. } => true,
-        ResizeStage::Swap { .. } => true,
-    }
-}
-
-fn push_sound(at: PushStage) -> bool
-    ensures { result ≡ push_sound at }
-{
-    match at {
-        PushStage::LoadBack => true,
-        PushStage::LoadFront { .. } => true,
-        PushStage::Resize { at, .. } => resize_sound(at),
-        PushStage::Write { .. } => true,
-        PushStage::StoreBack { .. } => true,
-    }
-}
-
-fn pop_sound(at: PopStage) -> bool
-    ensures { result ≡ pop_sound at }
-{
-    match at {
-        PopStage::Fifo(_) => true,
-        PopStage::Lifo(_) => true,
-        PopStage::Shrink { at, .. } => resize_sound(at),
+        ResizeStage::LoadBack { capacity } | ResizeStage::LoadFront { capacity, .. } => {
+            Ring::allowed(capacity)
+        }
+        ResizeStage::Copy { .. } | ResizeStage::Swap { .. } => true,
     }
 }
 
@@ -73,8 +51,7 @@ fn all_sound(haul: Haul, at: AllStage) -> bool
 {
     match at {
         AllStage::Copy { i } => haul_sound(haul, i),
-        AllStage::ReloadRing => haul_sound(haul, 0),
-        AllStage::Exchange => haul_sound(haul, 0),
+        AllStage::ReloadRing | AllStage::Exchange => haul_sound(haul, 0),
     }
 }
 
@@ -83,10 +60,10 @@ fn one_sound(haul: Haul, at: OneStage) -> bool
 {
     match at {
         OneStage::ExchangeFirst { .. } => haul_sound(haul, 0),
-        OneStage::ReloadBack { i } => haul_sound(haul, i),
-        OneStage::Read { i } => haul_sound(haul, i),
-        OneStage::ReloadRing { i, .. } => haul_sound(haul, i),
-        OneStage::Exchange { i, .. } => haul_sound(haul, i),
+        OneStage::ReloadBack { i }
+        | OneStage::Read { i }
+        | OneStage::ReloadRing { i, .. }
+        | OneStage::Exchange { i, .. } => haul_sound(haul, i),
     }
 }
 
@@ -100,45 +77,13 @@ fn take_sound(haul: Haul, at: TakeStage) -> bool
     }
 }
 
-fn source_sound(at: SourceStage) -> bool
-    ensures { result ≡ source_sound at }
-{
-    match at {
-        SourceStage::LoadFront { .. } => true,
-        SourceStage::LoadBack { .. } => true,
-        SourceStage::LoadRing { wanted, .. } => wanted_sound(wanted),
-        SourceStage::Take(haul, stage) => take_sound(haul, stage),
-    }
-}
-
-fn reserve_sound(at: ReserveStage) -> bool
-    ensures { result ≡ reserve_sound at }
-{
-    match at {
-        ReserveStage::LoadBack => true,
-        ReserveStage::LoadFront { .. } => true,
-        ReserveStage::Resize(stage) => resize_sound(stage),
-    }
-}
-
 fn put_sound(haul: Haul, at: PutStage) -> bool
     ensures { result ≡ put_sound haul at }
 {
     match at {
-        PutStage::WriteCopy { i, .. } => haul_sound(haul, i),
-        PutStage::WriteOne { i, .. } => haul_sound(haul, i),
+        PutStage::WriteCopy { i, .. } | PutStage::WriteOne { i, .. } => haul_sound(haul, i),
         PutStage::Swap { x, .. } => haul_sound(haul, x),
         PutStage::StoreBack => haul_sound(haul, 0),
-    }
-}
-
-fn own_sound(at: OwnStage) -> bool
-    ensures { result ≡ own_sound at }
-{
-    match at {
-        OwnStage::Reserve(_, stage) => reserve_sound(stage),
-        OwnStage::LoadBack { wanted } => wanted_sound(wanted),
-        OwnStage::Put(haul, stage) => put_sound(haul, stage),
     }
 }
 
@@ -146,10 +91,13 @@ fn numbers_sound(stage: Stage) -> bool
     ensures { result ≡ numbers_sound stage }
 {
     match stage {
-        Stage::Push(_, at) => push_sound(at),
-        Stage::Pop(_, at) => pop_sound(at),
-        Stage::BatchSource(_, at) => source_sound(at),
-        Stage::BatchOwn(_, at) => own_sound(at),
+        Stage::Push(_, PushStage::Resize { at, .. })
+        | Stage::Pop(_, PopStage::Shrink { at, .. })
+        | Stage::BatchOwn(_, OwnStage::Reserve(_, ReserveStage::Resize(at))) => resize_sound(at),
+        Stage::BatchSource(_, SourceStage::LoadRing { wanted, .. })
+        | Stage::BatchOwn(_, OwnStage::LoadBack { wanted }) => wanted_sound(wanted),
+        Stage::BatchSource(_, SourceStage::Take(haul, at)) => take_sound(haul, at),
+        Stage::BatchOwn(_, OwnStage::Put(haul, at)) => put_sound(haul, at),
         _ => true,
     }
 }

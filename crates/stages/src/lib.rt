@@ -1,8 +1,8 @@
-// What a stage tells of its next step. Each type of stage has a function of its own, as it has a definition.
+// What a stage tells of its next step.
 #![tactic(auto)]
 
 ghost use Rattle.std.specs.Prelude.{◌≡◌};
-ghost use Rattle.stages.specs.Stages.{touched_of, idle_b, resize_claims, push_claims, pop_claims, reserve_claims, own_claims, claims_b};
+ghost use Rattle.stages.specs.Stages.{touched_of, idle_b, resize_claims, claims_b};
 
 use parts::stage::{OwnStage, PopStage, PushStage, ReserveStage, ResizeStage, Stage};
 
@@ -11,9 +11,7 @@ pub fn touched(stage: Stage, own: usize) -> usize
     ensures { result ≡ touched_of stage own }
 {
     match stage {
-        Stage::Steal(source, _) => source,
-        Stage::Length(queue, _) => queue,
-        Stage::BatchSource(source, _) => source,
+        Stage::Steal(queue, _) | Stage::Length(queue, _) | Stage::BatchSource(queue, _) => queue,
         _ => own,
     }
 }
@@ -30,50 +28,14 @@ fn resize_claims(at: ResizeStage) -> bool
     matches!(at, ResizeStage::LoadFront { .. })
 }
 
-fn push_claims(at: PushStage) -> bool
-    ensures { result ≡ push_claims at }
-{
-    match at {
-        PushStage::Resize { at, .. } => resize_claims(at),
-        _ => false,
-    }
-}
-
-fn pop_claims(at: PopStage) -> bool
-    ensures { result ≡ pop_claims at }
-{
-    match at {
-        PopStage::Shrink { at, .. } => resize_claims(at),
-        _ => false,
-    }
-}
-
-fn reserve_claims(at: ReserveStage) -> bool
-    ensures { result ≡ reserve_claims at }
-{
-    match at {
-        ReserveStage::Resize(stage) => resize_claims(stage),
-        _ => false,
-    }
-}
-
-fn own_claims(at: OwnStage) -> bool
-    ensures { result ≡ own_claims at }
-{
-    match at {
-        OwnStage::Reserve(_, stage) => reserve_claims(stage),
-        _ => false,
-    }
-}
-
 // The step claims a ring.
 pub fn claims(stage: Stage) -> bool
     ensures { result ≡ claims_b stage }
 {
     match stage {
-        Stage::Push(_, at) => push_claims(at),
-        Stage::Pop(_, at) => pop_claims(at),
-        Stage::BatchOwn(_, at) => own_claims(at),
+        Stage::Push(_, PushStage::Resize { at, .. })
+        | Stage::Pop(_, PopStage::Shrink { at, .. })
+        | Stage::BatchOwn(_, OwnStage::Reserve(_, ReserveStage::Resize(at))) => resize_claims(at),
         _ => false,
     }
 }

@@ -12,6 +12,7 @@ use player::{Player, Turn};
 use session::grammar::Said;
 use writing::Page;
 
+// is_over stands beside player and machine, which are told where the program is over too.
 #[derive(Clone, Copy)]
 pub struct Stand {
     pub player: Player,

@@ -58,7 +58,7 @@ impl Steal {
         }
     }
 
-    // The number of each answer: its kind among the answers of all calls.
+    // The number of each answer: its kind among the answers of all calls, which callers in C are told.
     pub fn number(self) -> u64
         ensures { result ≡ number_of self }
     {

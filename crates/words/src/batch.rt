@@ -15,10 +15,7 @@ impl InWords for BatchKind {
     ghost read_of = { kind_of };
 
     fn to_words(self) -> u64 {
-        match self {
-            BatchKind::Batch => 0,
-            BatchKind::BatchAndPop => 1,
-        }
+        self as u64
     }
 
     fn from_words(words: u64) -> BatchKind {

@@ -15,7 +15,7 @@ pub mod slices;
 pub mod stage;
 pub mod stealing;
 
-// What is kept as words.
+// What is kept as words. No From: none could promise that what is written is read again.
 pub trait InWords: Sized {
     type Words;
 

@@ -14,10 +14,7 @@ impl InWords for Popper {
     ghost read_of = { popper_of };
 
     fn to_words(self) -> u64 {
-        match self {
-            Popper::Pop => 0,
-            Popper::BatchAndPop => 1,
-        }
+        self as u64
     }
 
     fn from_words(words: u64) -> Popper {

@@ -36,10 +36,7 @@ impl InWords for Flavor {
     ghost read_of = { flavor_of };
 
     fn to_words(self) -> u64 {
-        match self {
-            Flavor::Fifo => 0,
-            Flavor::Lifo => 1,
-        }
+        self as u64
     }
 
     fn from_words(words: u64) -> Flavor {

@@ -1,4 +1,5 @@
-// The words of queues and stages in a longer row of words. Past the row's end a word is 0, and nothing is put.
+// The words of queues and stages in a longer row of words. Past the row's end a word is 0, and nothing is put. Row and place come as two, since a row is
+// lent for one call, whatever its length.
 ghost use Rattle.std.specs.Prelude.{◌≡◌, ◌+◌, slice_index, slice_set};
 ghost use Rattle.words.specs.Slices.{queue_in, stage_in, put_row, put_queue, put_stage, queues_b, stages_b, machine_b};
 
@@ -14,10 +15,9 @@ pub const MACHINE_WORDS: usize = 91;
 pub fn word(words: &[u64], at: usize, k: usize) -> u64
     ensures { result ≡ slice_index words.now (at + k) }
 {
-    match at.checked_add(k) {
-        Some(i) => words.get(i).copied().unwrap_or(0),
-        None => 0,
-    }
+    at.checked_add(k)
+        .and_then(|i| words.get(i).copied())
+        .unwrap_or(0)
 }
 
 pub fn queue_in(words: &[u64], at: usize) -> QueueWords
@@ -121,7 +121,7 @@ where
     words == T::from_words(words).to_words()
 }
 
-// Words that queues have, where the machine's stand.
+// Words that queues have, where the machine's stand. With stages it is the same, but for what is read: a closure for that would be longer.
 fn are_queues(words: &[u64]) -> bool
     ensures { result ≡ queues_b words.now }
 {

@@ -1,4 +1,5 @@
-// Text put on a lent page, from a place on. What lies behind the page's end is left out.
+// Text put on a lent page, from a place on. What lies behind the page's end is left out, and no put fails: so none goes by Display, which says what is
+// written only where it succeeds.
 #![tactic(auto)]
 
 ghost use Rattle.std.specs.Prelude.{◌≡◌, ◌∷◌, []};
