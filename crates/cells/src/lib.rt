@@ -1,4 +1,4 @@
-// The cells of a ring in the lent pool. A ring occupies the first cells of its place, and is worked on as that stretch of the pool alone.
+// The cells of a ring in the lent pool; pool and ring come as two, since the pool is lent for one step. A ring occupies the first cells of its place, and is worked on as that stretch of the pool alone.
 #![tactic(auto)]
 
 ghost use Rattle.std.specs.Prelude.{◌≡◌, ◌<◌, ◌≤◌, length, get_or, set, IfSome};

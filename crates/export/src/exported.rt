@@ -16,7 +16,7 @@ use slots::answer::answer_words;
 use slots::queue::flavors_of;
 use words::slices::{MACHINE_WORDS, is_machine};
 
-// The kind of an answer to a kind that is no call's.
+// The kind of an answer to a kind that is no call's: a number, as all that callers in C are told.
 pub const NO_CALL: u64 = 11;
 
 // Words that are no machine are refused.

@@ -17,7 +17,7 @@ pub enum Operation {
     BatchAndPop { source: usize, limit: u64 },
 }
 
-// What a call asks of a thread.
+// What a call asks of a thread: a step is a request too, and no absence of one.
 #[derive(Clone, Copy)]
 pub enum Request {
     Step,

@@ -1,4 +1,4 @@
-// The functions that firmware links: the exported ones under names of their own.
+// The functions that firmware links: the exported ones under names of their own. C hands them numbers: a kind, flavours as bits.
 #![tactic(auto)]
 
 ghost use Rattle.std.specs.Prelude.{◌≡◌};

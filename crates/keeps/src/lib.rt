@@ -4,9 +4,7 @@
 ghost use Rattle.std.specs.Prelude.{◌≡◌};
 ghost use Rattle.keeps.specs.Kept.{resize_keeps, steal_keeps, kept_of};
 
-use parts::stage::{
-    OwnStage, PopStage, PushStage, ReserveStage, ResizeStage, SourceStage, Stage, StealStage,
-};
+use parts::stage::{OwnStage, ResizeStage, SourceStage, Stage, StealStage};
 use ring::Ring;
 
 // A ring that is being built, from the claim to the swap, or one that is held, from its load until the answer. Soundness asks the same of both, places do
@@ -42,12 +40,9 @@ pub fn ring_kept(stage: Stage) -> Kept
     ensures { result ≡ kept_of stage }
 {
     match stage {
-        Stage::Push(_, PushStage::Resize { at, .. })
-        | Stage::Pop(_, PopStage::Shrink { at, .. })
-        | Stage::BatchOwn(_, OwnStage::Reserve(_, ReserveStage::Resize(at))) => resize_keeps(at),
         Stage::Steal(_, at) => steal_keeps(at),
         Stage::BatchSource(_, SourceStage::Take(haul, _))
         | Stage::BatchOwn(_, OwnStage::Put(haul, _)) => Kept::Held(haul.ring),
-        _ => Kept::Nothing,
+        _ => stage.resize().map_or(Kept::Nothing, resize_keeps),
     }
 }

@@ -1,4 +1,5 @@
-// The kinds of calls, by their numbers, and what a call of a kind asks for.
+// The kinds of calls, by their numbers, and what a call of a kind asks for. Thread, kind, source and operand are the four numbers of a call, which come one
+// by one from a session's text and from C.
 #![tactic(auto)]
 
 ghost use Rattle.std.specs.Prelude.{◌≡◌};

@@ -85,7 +85,7 @@ fn put_queue_if(page: &mut Page, count: usize, queues: [Queue; 4], k: usize)
 }
 
 // A call's line: of the queues so many, and four at most whatever the count, which is what keeps a line short (`call_short`). Count and queues are the
-// machine's fields; a struct of the two would be made for this call alone.
+// machine's fields; a struct of the two would be made for this call alone. The four stand one by one, as in `call_text`.
 pub fn put_call(page: &mut Page, count: usize, queues: [Queue; 4], answer: Answer)
     ensures { page.new ≡ put_on page.old (call_text count queues answer) }
 {

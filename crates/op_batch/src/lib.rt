@@ -90,7 +90,7 @@ pub fn turn(n: u64, done: u64) -> Option<u64>
     Some(done)
 }
 
-// Of n, one more than so many are done.
+// Of n, one more than so many are done. Not `turn` of one more: that number may not fit.
 pub fn turn_after(n: u64, done: u64) -> Option<u64>
     ensures { result ≡ turn_of n (done + 1) }
 {

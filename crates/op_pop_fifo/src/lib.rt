@@ -11,6 +11,7 @@ use parts::queue::Queue;
 use parts::stage::{FifoPopStage, PopStage, Popper};
 use ring::Ring;
 
+// On to a stage of the pop.
 fn fifo(q: Queue, at: FifoPopStage) -> StepOut<PopStage>
     ensures { result ≡ fifo_of q at }
 {

@@ -12,6 +12,7 @@ use parts::queue::Queue;
 use parts::stage::{LifoPopStage, PopStage, Popper};
 use ring::Ring;
 
+// On to a stage of the pop.
 fn lifo(q: Queue, at: LifoPopStage) -> StepOut<PopStage>
     ensures { result ≡ lifo_of q at }
 {

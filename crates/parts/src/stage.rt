@@ -1,5 +1,8 @@
 // Where a thread stands in its operation, with what it remembers there: data and no closure, since it is kept between calls, and as words.
 // A variant is the step to be made next, named after its line in the tables; b and f are a back and a front that were loaded.
+ghost use Rattle.std.specs.Prelude.{◌≡◌};
+ghost use Rattle.parts.specs.Stages.{resize_in};
+
 use index::Index;
 use ring::Ring;
 
@@ -70,6 +73,7 @@ pub enum StealStage {
     Exchange { f: Index, ring: Ring, job: u64 },
 }
 
+// A step that has loaded nothing is one too, as in every operation.
 #[derive(Clone, Copy)]
 pub enum LengthStage {
     LoadBack,
@@ -198,4 +202,18 @@ pub enum Stage {
     OwnBatch(LengthStage),
     BatchSource(usize, SourceStage),
     BatchOwn(usize, OwnStage),
+}
+
+impl Stage {
+    // The resize that the stage is in, of a push, a pop or a batch.
+    pub fn resize(self) -> Option<ResizeStage>
+        ensures { result ≡ resize_in self }
+    {
+        match self {
+            Stage::Push(_, PushStage::Resize { at, .. })
+            | Stage::Pop(_, PopStage::Shrink { at, .. })
+            | Stage::BatchOwn(_, OwnStage::Reserve(_, ReserveStage::Resize(at))) => Some(at),
+            _ => None,
+        }
+    }
 }

@@ -6,7 +6,7 @@ ghost use Rattle.places.specs.Places.{kept_in};
 use keeps::Kept;
 use parts::queue::{Queue, queue_of};
 
-// So many queues, and as many threads, of the four that a machine has; what stands past the count is not looked at.
+// So many queues, and as many threads, of the four that a machine has, whose memory is fixed; what stands past the count is not looked at.
 #[derive(Clone, Copy)]
 pub struct Rings {
     pub queues: [Queue; 4],

@@ -98,7 +98,7 @@ fn is_done(answer: Answer) -> bool
 }
 
 impl Turn {
-    // What is printed: a line for each call, for a setup that is not done, and for what is no session.
+    // Count and queues come as two, as in `put_call`. What is printed: a line for each call, for a setup that is not done, and for what is no session.
     pub fn show(self, answer: Answer, count: usize, queues: [Queue; 4], page: &mut Page)
         ensures { page.new ≡ show_of self answer count queues page.old }
     {

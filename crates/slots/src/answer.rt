@@ -1,4 +1,4 @@
-// An answer as words: its kind, its number or 0, its job or a length's difference in two's complement, a length.
+// An answer as words, which callers in C read: its kind, its number or 0, its job or a length's difference in two's complement, a length.
 ghost use Rattle.std.specs.Prelude.{◌≡◌};
 ghost use Rattle.slots.specs.Answer.{answer_words};
 

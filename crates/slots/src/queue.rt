@@ -1,4 +1,4 @@
-// A queue as words.
+// A queue as words: numbers, since callers in C keep them.
 ghost use Rattle.std.specs.Prelude.{◌≡◌};
 ghost use Rattle.slots.specs.Queue.{flavors_of};
 

@@ -5,8 +5,8 @@ ghost use Rattle.sound.specs.Sound.{named_sound, resize_sound, wanted_sound, hau
 use crate::kept::kept_sound;
 use keeps::ring_kept;
 use parts::stage::{
-    AllStage, Haul, OneStage, OwnStage, PopStage, PushStage, PutStage, ReserveStage, ResizeStage,
-    SourceStage, Stage, TakeStage, Wanted,
+    AllStage, Haul, OneStage, OwnStage, PutStage, ResizeStage, SourceStage, Stage, TakeStage,
+    Wanted,
 };
 use ring::Ring;
 
@@ -91,14 +91,11 @@ fn numbers_sound(stage: Stage) -> bool
     ensures { result ≡ numbers_sound stage }
 {
     match stage {
-        Stage::Push(_, PushStage::Resize { at, .. })
-        | Stage::Pop(_, PopStage::Shrink { at, .. })
-        | Stage::BatchOwn(_, OwnStage::Reserve(_, ReserveStage::Resize(at))) => resize_sound(at),
         Stage::BatchSource(_, SourceStage::LoadRing { wanted, .. })
         | Stage::BatchOwn(_, OwnStage::LoadBack { wanted }) => wanted_sound(wanted),
         Stage::BatchSource(_, SourceStage::Take(haul, at)) => take_sound(haul, at),
         Stage::BatchOwn(_, OwnStage::Put(haul, at)) => put_sound(haul, at),
-        _ => true,
+        _ => stage.resize().is_none_or(resize_sound),
     }
 }
 

@@ -4,7 +4,7 @@
 ghost use Rattle.std.specs.Prelude.{◌≡◌};
 ghost use Rattle.stages.specs.Stages.{touched_of, idle_b, resize_claims, claims_b};
 
-use parts::stage::{OwnStage, PopStage, PushStage, ReserveStage, ResizeStage, Stage};
+use parts::stage::{ResizeStage, Stage};
 
 // The queue that the step touches, for a thread whose own queue is this.
 pub fn touched(stage: Stage, own: usize) -> usize
@@ -32,10 +32,5 @@ fn resize_claims(at: ResizeStage) -> bool
 pub fn claims(stage: Stage) -> bool
     ensures { result ≡ claims_b stage }
 {
-    match stage {
-        Stage::Push(_, PushStage::Resize { at, .. })
-        | Stage::Pop(_, PopStage::Shrink { at, .. })
-        | Stage::BatchOwn(_, OwnStage::Reserve(_, ReserveStage::Resize(at))) => resize_claims(at),
-        _ => false,
-    }
+    stage.resize().is_some_and(resize_claims)
 }

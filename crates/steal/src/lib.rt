@@ -1,4 +1,4 @@
-// The answer of an attempt to steal, and its helpers.
+// The answer of an attempt to steal, as the crate has it with three outcomes, and its helpers.
 #![tactic(auto)]
 
 ghost use Rattle.std.specs.Prelude.{◌≡◌};

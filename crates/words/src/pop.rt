@@ -6,6 +6,7 @@ use index::Index;
 use parts::stage::{FifoPopStage, LifoPopStage, PopStage, Popper, ResizeStage};
 use slots::StageWords;
 
+// As with a flavour and a batch's kind: an impl each, since no impl is written by a macro of the repository's own.
 impl InWords for Popper {
     type Words = u64;
 

@@ -33,6 +33,7 @@ pub fn queue_in(words: &[u64], at: usize) -> QueueWords
     }
 }
 
+// As `queue_in`, for sixteen words: what differs is their names.
 pub fn stage_in(words: &[u64], at: usize) -> StageWords
     ensures { result ≡ stage_in words.now at }
 {
