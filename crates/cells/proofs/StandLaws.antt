@@ -150,7 +150,47 @@ pub read_other_place : (cells : List ℕ) (r s : Ring) (i j : Index) (job : ℕ)
 read_other_place cells r s i j job d =
     read_apart cells r s i j job (λ p q. spot_places cells r s i j (standing cells r p) (standing cells s q) d)
 
--- ---- the stretch, as the code lends it
+-- ---- the stretch: from its start, of so many cells
+
+abbrev pub start : Ring → ℕ
+start r = r.place.0 * place_cells
+
+abbrev pub size : Ring → ℕ
+size r = start r + r.capacity - start r
+
+-- an index's cell is one of it, wherever in the pool it starts
+pub at_inside : (cells : List ℕ) (r : Ring) (i : Index) (at from : ℕ) → Standing cells r → from + r.capacity ≤ length cells → at ≡ cell_of i r.capacity
+    → at < length (mid_of from (from + r.capacity - from) cells)
+at_inside cells r i at from s l e =
+    let b = cell_inside cells r i s in
+    rw (mid_len from (from + r.capacity) cells l) (omega arith)
+
+pub at_below : (cells : List ℕ) (r : Ring) (i : Index) (at : ℕ) → stands_b cells r ≡ true → at ≡ cell_of i r.capacity
+    → at < length (mid_of (start r) (size r) cells)
+at_below cells r i at s e =
+    let t = standing cells r s in
+    let m = t.room in
+    let u = t.allowed.high in
+    at_inside cells r i at (start r) t (omega arith) e
+
+-- what stands in that cell is what is read
+pub got : (cells : List ℕ) (r : Ring) (i : Index) (at : ℕ) → stands_b cells r ≡ true → at ≡ cell_of i r.capacity
+    → get_or (mid_of (start r) (size r) cells) at 0 ≡ read_of cells r i
+unfolding read_of spot
+got cells r i at s e =
+    let b = cell_inside cells r i (standing cells r s) in
+    let h : at < size r = omega arith in
+    rw (s, get_or-take (size r) (drop (start r) cells) at 0 h, get_or-drop, e)
+
+-- a job put there is written to the pool
+pub put_back_lem : (cells last : List ℕ) (r : Ring) (i : Index) (at job : ℕ) → stands_b cells r ≡ true → at ≡ cell_of i r.capacity
+    → last ≡ set (mid_of (start r) (size r) cells) at job
+    → put_mid (start r) (size r) cells last ≡ written_of cells r i job
+unfolding written_of spot
+put_back_lem cells last r i at job s e l =
+    rw (l, s, set_mid_at (start r) (size r) at cells job (at_below cells r i at s e), e)
+
+-- ---- and as the code lends it
 
 -- a ring that has one stands, and it is from the ring's start on
 pub has_stretch : (cells : List ℕ) (r : Ring) (s : Range ℕ) → Some s ≡ stretch_of cells r
@@ -164,29 +204,17 @@ has_stretch cells r s e = go (stands_b cells r) refl e
         (t, ap (λ (x : Range ℕ). x.start) h, ap (λ (x : Range ℕ). x.end) h)
     go false t f = absurd (let z : ◌≡◌ {A = ℕ} 0 1 = cc in omega arith)
 
-module _ (cells : List ℕ) (r : Ring) (i : Index) (at : ℕ) (s : Range ℕ) (e : Some s ≡ stretch_of cells r) (l : s.end ≤ length cells) (p : at ≡ cell_of i r.capacity) where
+module _ (cells : List ℕ) (r : Ring) (i : Index) (at : ℕ) (s : Range ℕ) (e : Some s ≡ stretch_of cells r) (p : at ≡ cell_of i r.capacity) where
   abbrev pub lent : List ℕ
   lent = mid_of s.start (s.end - s.start) cells
 
-  -- an index's cell is one of it
-  pub at_inside : at < length lent
-  at_inside =
-      let h = has_stretch cells r s e in
-      let b = cell_inside cells r i (standing cells r h.0) in
-      rw (mid_len s.start s.end cells l) (omega arith)
+  pub lent_inside : at < length lent
+  lent_inside = let h = has_stretch cells r s e in rw (h.1, h.2) (at_below cells r i at h.0 p)
 
-  -- what stands in that cell is what is read
-  pub got : get_or lent at 0 ≡ read_of cells r i
-  unfolding read_of spot
-  got =
-      let h = has_stretch cells r s e in
-      let b = cell_inside cells r i (standing cells r h.0) in
-      let g : at < s.end - s.start = omega arith in
-      rw (h.0, get_or-take (s.end - s.start) (drop s.start cells) at 0 g, get_or-drop, h.1, p)
+  pub lent_got : get_or lent at 0 ≡ read_of cells r i
+  lent_got = let h = has_stretch cells r s e in rw (h.1, h.2) (got cells r i at h.0 p)
 
-  -- a job put there is written to the pool
-  pub put_back_lem : (last : List ℕ) (job : ℕ) → last ≡ set lent at job → put_mid s.start (s.end - s.start) cells last ≡ written_of cells r i job
-  unfolding written_of spot
-  put_back_lem last job w =
+  pub lent_put_back : (last : List ℕ) (job : ℕ) → last ≡ set lent at job → put_mid s.start (s.end - s.start) cells last ≡ written_of cells r i job
+  lent_put_back last job w =
       let h = has_stretch cells r s e in
-      rw (w, h.0, set_mid_at s.start (s.end - s.start) at cells job at_inside, h.1, p)
+      rw (h.1, h.2) (put_back_lem cells last r i at job h.0 p (rw (h.1, h.2) at w))

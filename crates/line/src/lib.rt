@@ -80,7 +80,7 @@ fn put_queue_if(page: &mut Page, count: usize, queues: [Queue; 4], k: usize)
     ensures { page.new ≡ put_on page.old (queue_text_if count queues k) }
 {
     if k < count {
-        put_queue(page, queue_of(queues, k));
+        put_queue(page, queue_of(&queues, k));
     }
 }
 

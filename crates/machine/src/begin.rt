@@ -34,11 +34,13 @@ impl Machine {
         ensures { leaves result pool.now ≡ begin_of self pool.now thread operation }
     {
         match self.may_begin(pool.len(), thread, operation) {
-            Ok(()) => Called {
-                machine: self.begun(thread, operation),
-                answer: Answer::Working,
-            },
-            Err(refusal) => self.refused(refusal),
+            Ok(()) => {
+                return Called {
+                    machine: self.begun(thread, operation),
+                    answer: Answer::Working,
+                };
+            }
+            Err(refusal) => return self.refused(refusal),
         }
     }
 }

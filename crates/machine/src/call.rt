@@ -1,4 +1,5 @@
-// A call of either kind. A request is data: callers in C send it as numbers.
+// A call of either kind. A request is data: callers in C send it as numbers. Here, and where a call is set up, begun and stepped, each arm returns: a `match` that is
+// itself the result has one more local, as large as a machine.
 ghost use Rattle.std.specs.Prelude.{◌≡◌};
 ghost use Rattle.machine.specs.State.{leaves};
 ghost use Rattle.machine.specs.Call.{call_of};
@@ -11,8 +12,8 @@ impl Machine {
         ensures { leaves result pool.new ≡ call_of self pool.old thread request }
     {
         match request {
-            Request::Step => self.step(pool, thread),
-            Request::Begin(operation) => self.begin(pool, thread, operation),
+            Request::Step => return self.step(pool, thread),
+            Request::Begin(operation) => return self.begin(pool, thread, operation),
         }
     }
 }

@@ -78,8 +78,8 @@ impl Machine {
         ensures { leaves result pool.now ≡ setup_of queues flavors places pool.now }
     {
         match setup_tests(queues, places, pool.len()) {
-            Ok(()) => fresh(queues, flavors, places, Answer::Done),
-            Err(refusal) => fresh(0, flavors, 0, Answer::Refused(refusal)),
+            Ok(()) => return fresh(queues, flavors, places, Answer::Done),
+            Err(refusal) => return fresh(0, flavors, 0, Answer::Refused(refusal)),
         }
     }
 }

@@ -51,16 +51,16 @@ pub(crate) fn number_after(next: RingNumber, claim: Claim) -> RingNumber
 }
 
 impl Machine {
-    // Queue k, and zeros where there is none.
-    pub fn queue(self, k: usize) -> Queue
-        ensures { result ≡ queue_at self k }
+    // Queue k, and zeros where there is none. The machine is lent, here and for a stage: handed over, it would be copied at each look.
+    pub fn queue(&self, k: usize) -> Queue
+        ensures { result ≡ queue_at self.now k }
     {
-        queue_of(self.queues, k)
+        queue_of(&self.queues, k)
     }
 
     // Thread t's stage, and idle where there is none.
-    pub fn stage(self, t: usize) -> Stage
-        ensures { result ≡ stage_at self t }
+    pub fn stage(&self, t: usize) -> Stage
+        ensures { result ≡ stage_at self.now t }
     {
         self.threads
             .get(t)
@@ -74,7 +74,9 @@ impl Machine {
         self.threads.map(|thread| ring_kept(thread.stage))
     }
 
-    // The rings that places are looked up in.
+    // The rings that places are looked up in. Inlined, since a call of its own would move the queues by `memmove`, which the library for firmware does not need
+    // otherwise.
+    #[inline(always)]
     pub(crate) fn rings(self) -> Rings
         ensures queues { result.queues ≡ self.queues }
         ensures kept { kept_in result.kept ≡ kept_at self }

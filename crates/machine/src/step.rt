@@ -55,9 +55,9 @@ impl Machine {
                 let claim = self.claim(stage);
                 let out = self.advanced(pool, own, stage, k, claim);
                 self.next_ring = number_after(self.next_ring, claim);
-                self.stored(thread, k, out)
+                return self.stored(thread, k, out);
             }
-            Err(refusal) => self.refused(refusal),
+            Err(refusal) => return self.refused(refusal),
         }
     }
 }

@@ -48,9 +48,9 @@ pub fn zero_queue() -> Queue
     }
 }
 
-// Queue k of these, and zeros where there is none.
-pub fn queue_of(queues: [Queue; 4], k: usize) -> Queue
-    ensures { result ≡ queue_in queues k }
+// Queue k of these, and zeros where there is none. They are lent, so that a look at one copies one.
+pub fn queue_of(queues: &[Queue; 4], k: usize) -> Queue
+    ensures { result ≡ queue_in queues.now k }
 {
     queues.get(k).copied().unwrap_or(zero_queue())
 }

@@ -9,8 +9,8 @@ use crate::rings::Rings;
 
 impl Rings {
     // Queue i's ring and what thread j builds are in different places; and so are, of two, the queues' rings and what the threads build.
-    fn apart(self, i: usize, j: usize) -> bool
-        ensures { result ≡ apart_of (queue_in self.queues) (kept_in self.kept) i j }
+    fn apart(&self, i: usize, j: usize) -> bool
+        ensures { result ≡ apart_of (queue_in self.now.queues) (kept_in self.now.kept) i j }
     {
         let first = self.place_of(i);
         let second = self.place_of(j);
@@ -19,14 +19,14 @@ impl Rings {
         !builds_in(other, first) & ((i == j) | ((first != second) & !both_build(ring, other)))
     }
 
-    fn apart_from(self, i: usize) -> bool
-        ensures { result ≡ all_below self.count (apart_of (queue_in self.queues) (kept_in self.kept) i) }
+    fn apart_from(&self, i: usize) -> bool
+        ensures { result ≡ all_below self.now.count (apart_of (queue_in self.now.queues) (kept_in self.now.kept) i) }
     {
         (0..self.count).all(|j| self.apart(i, j))
     }
 
-    pub fn all_apart(self) -> bool
-        ensures { result ≡ all_apart_of (queue_in self.queues) (kept_in self.kept) self.count }
+    pub fn all_apart(&self) -> bool
+        ensures { result ≡ all_apart_of (queue_in self.now.queues) (kept_in self.now.kept) self.now.count }
     {
         (0..self.count).all(|i| self.apart_from(i))
     }

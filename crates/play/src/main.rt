@@ -58,31 +58,32 @@ fn close_whole(player: Player, page: &mut Page)
 
 impl Game<'_, '_> {
     #[tactic(auto, using(line::proofs::LineLaws::still_long))]
-    fn act(&mut self, rt: &impl Print, turn: Turn) {
-        self.stand = act_whole(self.stand, turn, self.pool, &mut self.page);
-        turn_page(rt, &mut self.page);
-    }
-
-    #[tactic(auto, using(line::proofs::LineLaws::still_long))]
     fn close(&mut self, rt: &impl Print) {
         close_whole(self.stand.player, &mut self.page);
         turn_page(rt, &mut self.page);
     }
 
-    #[tactic(auto, using(player::proofs::PlayerLaws::listen_within, player::proofs::PlayerLaws::listen_some))]
+    // The stand is a variable of its own while a part is played: behind `&mut self` it would be copied twice more at each number.
+    #[tactic(auto, using(line::proofs::LineLaws::still_long, player::proofs::PlayerLaws::listen_within, player::proofs::PlayerLaws::listen_some))]
     fn play(&mut self, rt: &impl Print, part: &[u8]) {
+        let mut stand = self.stand;
         let mut rest = part;
-        while !rest.is_empty() && !self.stand.is_over {
-            let turn = self.stand.player.listen(rest);
+        while !rest.is_empty() && !stand.is_over {
+            let turn = stand.player.listen(rest);
             rest = &rest[turn.used..];
-            self.act(rt, turn);
+            stand = act_whole(stand, turn, self.pool, &mut self.page);
+            turn_page(rt, &mut self.page);
         }
+        self.stand = stand;
     }
 
     // At the text's end its last number may yet say something; then a session that is cut off is none.
+    #[tactic(auto, using(line::proofs::LineLaws::still_long))]
     fn end(&mut self, rt: &impl Print) {
         if !self.stand.is_over {
-            self.act(rt, self.stand.player.finish());
+            let turn = self.stand.player.finish();
+            self.stand = act_whole(self.stand, turn, self.pool, &mut self.page);
+            turn_page(rt, &mut self.page);
         }
         if !self.stand.is_over {
             self.close(rt);

@@ -37,5 +37,5 @@ pub fn queue_sound(places: usize, q: Queue) -> bool
 pub fn queues_sound(count: usize, places: usize, queues: [Queue; 4]) -> bool
     ensures { result ≡ queues_sound_of count places (queue_in queues) }
 {
-    (0..count).all(|i| queue_sound(places, queue_of(queues, i)))
+    (0..count).all(|i| queue_sound(places, queue_of(&queues, i)))
 }

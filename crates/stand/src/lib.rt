@@ -27,21 +27,23 @@ fn lent(player: Player, pool: &[u64]) -> usize
     player.cells().min(pool.len())
 }
 
-// What the machine does at what was said; where it is asked nothing, it stands as it did.
+// What the machine does at what was said; where it is asked nothing, it stands as it did. Each arm returns, as in `Machine::call`.
 #[tactic(auto, unfolding(crate::specs::Stand::ask_of))]
 fn ask(machine: Machine, turn: Turn, pool: &mut [u64]) -> Called
     ensures { leaves result pool.new ≡ ask_of machine turn pool.old }
 {
     match turn.said {
-        Said::Nothing | Said::Wrong => Called {
-            machine,
-            answer: Answer::Working,
-        },
+        Said::Nothing | Said::Wrong => {
+            return Called {
+                machine,
+                answer: Answer::Working,
+            };
+        }
         Said::Setup { queues } => {
             let session = turn.player.session;
-            Machine::setup(queues, session.all_flavors(), session.places as usize, pool)
+            return Machine::setup(queues, session.all_flavors(), session.places as usize, pool);
         }
-        Said::Call { thread, request } => machine.call(pool, thread, request),
+        Said::Call { thread, request } => return machine.call(pool, thread, request),
     }
 }
 
@@ -64,12 +66,17 @@ impl Stand {
         ensures { scene result pool.new page.new ≡ act_of self turn pool.old page.old }
     {
         let cells = lent(turn.player, pool);
-        let Called { machine, answer } = ask(self.machine, turn, &mut pool[..cells]);
-        turn.show(answer, machine.queue_count, machine.queues, page);
+        let called = ask(self.machine, turn, &mut pool[..cells]);
+        turn.show(
+            called.answer,
+            called.machine.queue_count,
+            called.machine.queues,
+            page,
+        );
         Stand {
             player: turn.player,
-            machine,
-            is_over: turn.ends(answer),
+            machine: called.machine,
+            is_over: turn.ends(called.answer),
         }
     }
 }

@@ -20,16 +20,18 @@ pub fn word(words: &[u64], at: usize, k: usize) -> u64
         .unwrap_or(0)
 }
 
+// Six words from the place on: one test finds where they begin.
 pub fn queue_in(words: &[u64], at: usize) -> QueueWords
     ensures { result ≡ queue_in words.now at }
 {
+    let row = words.get(at..).unwrap_or(&[]);
     QueueWords {
-        flavor: word(words, at, 0),
-        front: word(words, at, 1),
-        back: word(words, at, 2),
-        number: word(words, at, 3),
-        place: word(words, at, 4),
-        capacity: word(words, at, 5),
+        flavor: word(row, 0, 0),
+        front: word(row, 0, 1),
+        back: word(row, 0, 2),
+        number: word(row, 0, 3),
+        place: word(row, 0, 4),
+        capacity: word(row, 0, 5),
     }
 }
 
@@ -37,23 +39,24 @@ pub fn queue_in(words: &[u64], at: usize) -> QueueWords
 pub fn stage_in(words: &[u64], at: usize) -> StageWords
     ensures { result ≡ stage_in words.now at }
 {
+    let row = words.get(at..).unwrap_or(&[]);
     StageWords {
-        operation: word(words, at, 0),
-        number: word(words, at, 1),
-        kind: word(words, at, 2),
-        step: word(words, at, 3),
-        f: word(words, at, 4),
-        b: word(words, at, 5),
-        n: word(words, at, 6),
-        i: word(words, at, 7),
-        end: word(words, at, 8),
-        job: word(words, at, 9),
-        far: word(words, at, 10),
-        hand: word(words, at, 11),
-        held: word(words, at, 12),
-        ring: word(words, at, 13),
-        place: word(words, at, 14),
-        capacity: word(words, at, 15),
+        operation: word(row, 0, 0),
+        number: word(row, 0, 1),
+        kind: word(row, 0, 2),
+        step: word(row, 0, 3),
+        f: word(row, 0, 4),
+        b: word(row, 0, 5),
+        n: word(row, 0, 6),
+        i: word(row, 0, 7),
+        end: word(row, 0, 8),
+        job: word(row, 0, 9),
+        far: word(row, 0, 10),
+        hand: word(row, 0, 11),
+        held: word(row, 0, 12),
+        ring: word(row, 0, 13),
+        place: word(row, 0, 14),
+        capacity: word(row, 0, 15),
     }
 }
 

@@ -2,7 +2,7 @@
 use Rattle.std.proofs.Common.{◌≡◌, refl, sym, ap, ◌∙◌, List, [], ◌∷◌, ◌++◌, ℕ, zero, suc, ◌+◌, ◌*◌, ◌/◌, ◌%◌, ◌^◌, ◌≤◌, ◌<◌, ℤ, pos, negsuc, ⊎_elim, length, length-append, length-set, take, get_or, set, add-one, arith, ltb, lt-ltb, le-ltb}
 use Rattle.std.proofs.lemmas.List.{take_more}
 use lib.Seq.{set_out, sets, sets-eq}
-use Rattle.base.specs.Tests.{pick, le_or_lt, by_test}
+use Rattle.base.specs.Tests.{pick, le_or_lt, by_test, tests}
 use Rattle.writing.specs.declared.Page.{Page}
 use Rattle.writing.specs.Writing.{printed, put, holding, put_on, whole, width_from, last_digits, decimal, signed}
 
@@ -33,6 +33,17 @@ put_then p xs ys = ap (holding p) (put_append p.bytes.now p.at xs ys)
 pub put_next : (p q : Page) (text : List ℕ) (i : ℕ) → i < length text → q ≡ put_on p (take i text) →
     put_on q (get_or text i 0 ∷ []) ≡ put_on p (take (i + 1) text)
 put_next p q text i h e = rw (take_more text i 0 h, e) (put_then p (take i text) (get_or text i 0 ∷ []))
+
+-- what is put on a page ends on it
+pub put_within : (p : List ℕ) (at : ℕ) (text : List ℕ) → at ≤ length p → (put p at text).at ≤ length p
+unfolding put
+put_within p at [] h = h
+put_within p at (b ∷ bs) h =
+    let n = pick (ltb at (length p)) (at + 1) (length p) in
+    let l : n ≤ length p = by_test (λ (k : ℕ). k ≤ length p) (ltb at (length p)) (at + 1) (length p) (λ t. omega tests) (λ t. omega arith) in
+    let e : length (set p at b) ≡ length p = length-set p at b in
+    let w : n ≤ length (set p at b) = omega arith in
+    let r : (put (set p at b) n bs).at ≤ length (set p at b) = put_within (set p at b) n bs w in omega arith
 
 -- a text that fits on a page is all put there, and the bytes around it stay
 put_sets : (p : List ℕ) (at : ℕ) (text : List ℕ) → at + length text ≤ length p → put p at text ≡ printed (sets p at text) (at + length text)
