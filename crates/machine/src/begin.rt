@@ -14,8 +14,8 @@ use starts::first_stage;
 
 impl Machine {
     // All the tests of a begin, in order.
-    fn may_begin(self, length: usize, thread: usize, operation: Operation) -> Result<(), Refusal>
-        ensures { result ≡ then_gate (gate_of self length thread) (begin_tests self.queue_count (idle_b (stage_at self thread)) operation) }
+    fn may_begin(&self, length: usize, thread: usize, operation: Operation) -> Result<(), Refusal>
+        ensures { result ≡ then_gate (gate_of self.now length thread) (begin_tests self.now.queue_count (idle_b (stage_at self.now thread)) operation) }
     {
         self.gate(length, thread)?;
         begin_tests(self.queue_count, self.idle(thread), operation)

@@ -15,8 +15,8 @@ pub struct Part {
 
 impl Machine {
     // The machine is sound, its pool has so many cells, and the queue is there.
-    fn shows(self, length: usize, queue: usize) -> bool
-        ensures { result ≡ shows_b self length queue }
+    fn shows(&self, length: usize, queue: usize) -> bool
+        ensures { result ≡ shows_b self.now length queue }
     {
         self.is_sound() & (is_pool(self.place_count, length) & (queue < self.queue_count))
     }

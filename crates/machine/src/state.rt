@@ -51,7 +51,8 @@ pub(crate) fn number_after(next: RingNumber, claim: Claim) -> RingNumber
 }
 
 impl Machine {
-    // Queue k, and zeros where there is none. The machine is lent, here and for a stage: handed over, it would be copied at each look.
+    // Queue k, and zeros where there is none. The machine is lent, here and to all that only look at it: handed over, it would be
+    // copied at each look.
     pub fn queue(&self, k: usize) -> Queue
         ensures { result ≡ queue_at self.now k }
     {
@@ -68,8 +69,8 @@ impl Machine {
     }
 
     // The rings that the threads keep.
-    fn rings_kept(self) -> [Kept; 4]
-        ensures { kept_in result ≡ kept_at self }
+    fn rings_kept(&self) -> [Kept; 4]
+        ensures { kept_in result ≡ kept_at self.now }
     {
         self.threads.map(|thread| ring_kept(thread.stage))
     }
@@ -77,10 +78,10 @@ impl Machine {
     // The rings that places are looked up in. Inlined, since a call of its own would move the queues by `memmove`, which the library for firmware does not need
     // otherwise.
     #[inline(always)]
-    pub(crate) fn rings(self) -> Rings
-        ensures queues { result.queues ≡ self.queues }
-        ensures kept { kept_in result.kept ≡ kept_at self }
-        ensures count { result.count ≡ self.queue_count }
+    pub(crate) fn rings(&self) -> Rings
+        ensures queues { result.queues ≡ self.now.queues }
+        ensures kept { kept_in result.kept ≡ kept_at self.now }
+        ensures count { result.count ≡ self.now.queue_count }
     {
         let queues = self.queues;
         let kept = self.rings_kept();

@@ -18,8 +18,8 @@ use stages::{is_idle, touched};
 
 impl Machine {
     // All the tests of a step at a stage, in order.
-    fn may_step(self, length: usize, thread: usize, stage: Stage) -> Result<(), Refusal>
-        ensures { result ≡ then_gate (gate_of self length thread) (step_tests (idle_b stage)) }
+    fn may_step(&self, length: usize, thread: usize, stage: Stage) -> Result<(), Refusal>
+        ensures { result ≡ then_gate (gate_of self.now length thread) (step_tests (idle_b stage)) }
     {
         self.gate(length, thread)?;
         step_tests(is_idle(stage))

@@ -10,15 +10,15 @@ use parts::answer::Refusal;
 use stages::is_idle;
 
 impl Machine {
-    pub(crate) fn idle(self, thread: usize) -> bool
-        ensures { result ≡ idle_b (stage_at self thread) }
+    pub(crate) fn idle(&self, thread: usize) -> bool
+        ensures { result ≡ idle_b (stage_at self.now thread) }
     {
         is_idle(self.stage(thread))
     }
 
     #[tactic(auto, unfolding(crate::specs::Step::gate_of))]
-    pub(crate) fn gate(self, length: usize, thread: usize) -> Result<(), Refusal>
-        ensures { result ≡ gate_of self length thread }
+    pub(crate) fn gate(&self, length: usize, thread: usize) -> Result<(), Refusal>
+        ensures { result ≡ gate_of self.now length thread }
     {
         call_tests(
             self.is_sound(),

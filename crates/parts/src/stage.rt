@@ -205,7 +205,8 @@ pub enum Stage {
 }
 
 impl Stage {
-    // The resize that the stage is in, of a push, a pop or a batch. Inlined, since most who ask look at no more than whether there is one.
+    // The resize that the stage is in, of a push, a pop or a batch. Inlined, since mostly there is none, and a call would
+    // take the whole stage apart to say so.
     #[inline(always)]
     pub fn resize(self) -> Option<ResizeStage>
         ensures { result ≡ resize_in self }

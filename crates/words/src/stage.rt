@@ -27,6 +27,8 @@ impl InWords for Stage {
         }
     }
 
+    // Inlined: a call would take all sixteen words apart once more, for each thread at each call.
+    #[inline(always)]
     fn from_words(words: StageWords) -> Stage {
         let number = words.number;
         match words.operation {

@@ -11,5 +11,5 @@ returns-then-stages_sound c =
     let r = c.rings.result in
     let e = c.rings.ensures in
     let as_kept = c.all_apart.ensures ∙ ap (λ kept. all_apart_of (queue_in r.queues) kept r.count) e.kept in
-    let apart : c.all_apart.result ≡ all_apart c.args.self = rw (as_kept, e.queues, e.count) refl in
+    let apart : c.all_apart.result ≡ all_apart c.args.self.now = rw (as_kept, e.queues, e.count) refl in
     search rules

@@ -7,5 +7,5 @@ use Rattle.machine.proofs.state.Machine.rings_kept.Goals as goal
 
 pub returns : goal.returns
 returns c =
-    row_kept c.args.self c.map.result (search rules) c.map.ensures.items.long
+    row_kept c.args.self.now c.map.result (search rules) c.map.ensures.items.long
     (λ t below. let at = c.map.ensures.items.at t idle_thread Nothing below in search rules)
