@@ -51,8 +51,8 @@ pub(crate) fn number_after(next: RingNumber, claim: Claim) -> RingNumber
 }
 
 impl Machine {
-    // Queue k, and zeros where there is none. The machine is lent, here and to all that only look at it: handed over, it would be
-    // copied at each look.
+    // Queue k, and zeros where there is none. The machine is lent, here and to its tests: handed over, it would be copied at
+    // each look.
     pub fn queue(&self, k: usize) -> Queue
         ensures { result ≡ queue_at self.now k }
     {
