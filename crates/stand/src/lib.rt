@@ -61,7 +61,7 @@ impl Stand {
         }
     }
 
-    // What the program does at what was said.
+    // What the program does at what was said. What was called is read by its fields: taken apart, its machine would be copied once more, at each number.
     pub fn act(self, turn: Turn, pool: &mut [u64], page: &mut Page) -> Stand
         ensures { scene result pool.new page.new ≡ act_of self turn pool.old page.old }
     {
